@@ -1,0 +1,80 @@
+"""Whether two answers to one case agree, the oracle's and the model's, in either order."""
+
+import re
+
+import streams
+
+FIELD_0 = re.compile(rb"\[[fF]\+?0+(,[^\]]*)?\]")
+
+
+def same_refusal(one, other):
+    """Whether two refusal lines agree, `-` standing for anything."""
+    return len(one) == len(other) == 5 and all(a == b or "-" in (a, b) for a, b in zip(one, other))
+
+
+def told(words):
+    """An answer's head line in short."""
+    if words is None:
+        return "nothing"
+    heads = {"1": "on", "2": "off", "3": "end", "5": "stops", "6": "not comparable"}
+    return heads.get(words[0]) or "refusal " + words[1]
+
+
+def refuses_field_0(words, message):
+    """Whether this is refusal 5 at a [f0]."""
+    if words is None or words[:2] != ["4", "5"] or words[2] == "-":
+        return False
+    start, length = int(words[2]), int(words[3])
+    return FIELD_0.fullmatch(message[start:start + length]) is not None
+
+
+def compare_listings(one, other, message):
+    """None where they agree, a row of the table where one side has no answer, else False."""
+    left, right = streams.steps(one), streams.steps(other)
+    for place in range(max(len(left), len(right))):
+        a = left[place] if place < len(left) else None
+        b = right[place] if place < len(right) else None
+        a_words, b_words = a and a.words, b and b.words
+        if a_words == b_words and a.records == b.records:
+            continue
+        if a_words and b_words and a_words[0] == b_words[0] == "4" and same_refusal(a_words, b_words):
+            continue
+        for mine, others in ((a_words, b_words), (b_words, a_words)):
+            if mine and mine[0] in ("5", "6"):
+                return (told(mine), told(others))
+        for mine, others in ((a_words, b_words), (b_words, a_words)):
+            if refuses_field_0(mine, message):
+                return ("passes over [f0], " + told(others), told(mine))
+        return False
+    return None
+
+
+def compare_values(one, other):
+    if len(one) != len(other):
+        return False
+    stops = None
+    for a, b in zip(one, other):
+        if a == b:
+            continue
+        left, right = a.split(" "), b.split(" ")
+        if len(left) > 3 and len(right) > 3 and left[:2] == right[:2]:
+            for mine, others in ((left, right), (right, left)):
+                if mine[2:4] == ["0", "0"]:
+                    stops = ("value stops", "value " + " ".join(others[2:4]))
+                    break
+            else:
+                return False
+        else:
+            return False
+    return stops
+
+
+def compare_blocks(one, other):
+    kind = one.line[0]
+    if kind == "L":
+        return compare_listings(one.answer, other.answer, streams.message_of(one.line))
+    if kind == "V":
+        return compare_values(one.answer, other.answer)
+    if one.answer == other.answer:
+        return None
+    return False
