@@ -1,6 +1,6 @@
 // Parts of a tag.
 ghost use mathlib.Core.Path.{_≡_};
-ghost use lib.ListN.{drop};
+ghost use lib.ListN.{getD, drop};
 ghost use Rattle.part.specs.Part.{lower as lowerOf, upTo, past, holds, indexOf};
 ghost use Rattle.number.specs.Number.{readNumber};
 use number::Number;
@@ -16,6 +16,13 @@ pub fn lower(b: u8) -> u8
         return b;
     }
     b
+}
+
+// The byte at a place, in lower case, 0 past the end.
+pub fn letter_at(s: &[u8], at: usize) -> u8
+    ensures { λ r. ⌜ r ≡ lowerOf (getD (now (s .entry)) at 0) ⌝ }
+{
+    lower(base::byte_at(s, at))
 }
 
 // Where the first byte that is sep stands, in either letter case, or the length.

@@ -8,10 +8,10 @@ use native.Mathlib.Nat.{add-zero, add-sub-cancel-left}
 use native.Mathlib.Omega.{arith}
 use borrow.Author.Tests.{eqb-true}
 use lib.Dec.{eqb}
-use lib.ListN.{length, getD, take, drop, take-append-drop, drop-of-length-le, List·getD-eq-default, length-drop}
+use lib.ListN.{length, getD, take, drop, take-append-drop, drop-of-length-le, length-drop}
 use lib.Seq.{drop-drop, getD-drop}
 use Rattle.base.specs.Pick.{pick, picks}
-use Rattle.base.specs.Lists.{drop-step}
+use Rattle.base.specs.Lists.{drop-step, past-end, inside}
 use Rattle.token.specs.Token.{plainLen, tagLen, restLen, sliceLen, Slice, cuts, slices, joined, lastByte}
 
 -- ---- the search for a bracket
@@ -50,19 +50,9 @@ pub ruleset plain-ways = (plain-open, plain-close, plain-on, plain-stop)
 
 -- ---- bytes
 
--- past the end there is no byte but 0
-pub past : (l : List ℕ) (i : ℕ) → length l ≤ i → 0 ≡ getD l i 0
-past l i h = sym (List·getD-eq-default l 0 h)
-
--- a place whose byte is not 0 is inside
-pub inside : (l : List ℕ) (i b : ℕ) → b ≡ getD l i 0 → 0 < b → i < length l
-inside [] i b e p = absurd (omega arith)
-inside (x ∷ l) zero b e p = omega arith
-inside (x ∷ l) (suc i) b e p = let h : i < length l = inside l i b e p in omega arith
-
 pub last-none : (l : List ℕ) → length l ≡ 0 → 0 ≡ lastByte l
 unfolding lastByte
-last-none l e = past l (length l - 1) (omega arith)
+last-none l e = past-end l (length l - 1) (omega arith)
 
 -- ---- the end of a slice
 

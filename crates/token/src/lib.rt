@@ -1,7 +1,7 @@
 // The tokenizer: where the slice at a place of a message ends, and of what shape a slice is.
 ghost use mathlib.Core.Path.{_≡_};
 ghost use Prim.Native.Nat.{_+_};
-ghost use lib.ListN.{getD, drop};
+ghost use lib.ListN.{drop};
 ghost use Rattle.token.specs.Token.{plainLen, sliceLen, isPair, lastByte, shapeOf};
 
 // What a slice is, as `Value::try_from` tells it.
@@ -11,13 +11,6 @@ pub enum Shape {
     Tag,
     Stray,
     Text,
-}
-
-// The byte at a place, 0 past the end.
-pub fn byte_at(msg: &[u8], at: usize) -> u8
-    ensures { λ r. ⌜ r ≡ getD (now (msg .entry)) at 0 ⌝ }
-{
-    if at < msg.len() { msg[at] } else { 0 }
 }
 
 // The place of the first bracket from a place on, or the end.
@@ -47,13 +40,13 @@ pub fn slice_end(msg: &[u8], at: usize) -> usize
     }
     let b = msg[at];
     let next = at + 1;
-    let second = byte_at(msg, next);
+    let second = base::byte_at(msg, next);
     if b == b'[' {
         if second == b'[' {
             return next + 1;
         }
         let end = bracket_from(msg, next);
-        if byte_at(msg, end) == b']' {
+        if base::byte_at(msg, end) == b']' {
             return end + 1;
         }
         return end;
@@ -101,7 +94,7 @@ pub fn shape_of(s: &[u8]) -> Shape
     if is_pair(s, b']') {
         return Shape::Bracket;
     }
-    let first = byte_at(s, 0);
+    let first = base::byte_at(s, 0);
     if first == b'[' {
         if last_byte(s) == b']' {
             return Shape::Tag;

@@ -1,5 +1,6 @@
+use Rattle.base.specs.Lists.{inside}
 use native.Mathlib.Omega.{arith}
-use Rattle.token.proofs.Laws.{slice-ways, inside}
+use Rattle.token.proofs.Laws.{slice-ways}
 use borrow.Author.Needs.{needs}
 use Rattle.token.proofs.slice_end.Statement.{statement}
 use Rattle.token.proofs.slice_end.Tie as tie

@@ -1,0 +1,17 @@
+use borrow.Author.Needs.{needs}
+use Rattle.numbers.proofs.graphic.Statement.{statement}
+use Rattle.numbers.proofs.graphic.Tie as tie
+
+pub graphic-spec : {M : Type 1} → statement M
+graphic-spec =
+    tie.close (tie.spec
+    (λ c. search needs)  -- enum-known-v
+    (λ c κs. search needs)  -- wide32-requires
+    (λ c. search needs)  -- cast-t8
+    (λ c. search needs)  -- cast-t9
+    (λ c κs. search needs)  -- flag-requires
+    (λ c κs. search needs)  -- given-requires
+    (λ c. search needs)  -- enum-told
+    (λ c κs. search needs)  -- wide32-requires-2
+    (λ c. rw (c .before .before .before .before .v .given .1) (cc))  -- returns
+    (λ c. rw (c .before .enum-told .given .1) (cc)))  -- returns-2

@@ -1,0 +1,13 @@
+use borrow.Author.Needs.{needs}
+use Rattle.reading.proofs.parsed_item.Statement.{statement}
+use Rattle.reading.proofs.parsed_item.Tie as tie
+
+pub parsed-item-spec : {M : Type 1} → statement M
+parsed-item-spec =
+    tie.close (tie.spec
+    (λ c. search needs)  -- enum-known-p
+    (λ c. search needs)  -- enum-told
+    (λ c. search needs)  -- enum-told-2
+    (λ c. rw (c .before .p .given .1))  -- returns
+    (λ c. search needs)  -- returns-2
+    (λ c. search needs))  -- returns-3

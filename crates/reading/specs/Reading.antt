@@ -1,0 +1,76 @@
+-- Document 01, "The calls", Reading: "message, offset; gives the slice with its value, or end at the message's length. It looks at the slice at
+-- the offset only, and uses 2, 3, 4 for the offset, 5 for unknown tags, 6 for parameters and 7."
+use Prim.Native.Nat.{ℕ, _+_, _-_}
+use mathlib.Core.List.{List, [], _∷_}
+use lib.Dec.{leb, ltb, eqb}
+use lib.ListN.{length, take, drop}
+use Rattle.base.specs.Pick.{pick}
+use Rattle.utf8.specs.Utf8.{wellFormed, insideCharacter, codes, allLatin1}
+use Rattle.token.specs.declared.Shape.{Shape}
+use Rattle.token.specs.declared.Shape.the-variants.{Bracket, Tag, Stray, Text as TextShape}
+use Rattle.token.specs.Token.{sliceLen, shapeOf}
+use Rattle.value.specs.declared.Place.{Place}
+use Rattle.value.specs.declared.Value.the-variants.{Text}
+use Rattle.tag.specs.declared.Parsed.{Parsed}
+use Rattle.tag.specs.declared.Parsed.the-variants.{Good, Unsupported, Bad}
+use Rattle.parse.specs.Parse.{tagValue}
+use Rattle.reading.specs.declared.Item.{Item}
+use Rattle.reading.specs.declared.Item.the-variants.{Is, Fails}
+use Rattle.reading.specs.declared.Reading.{Reading}
+use Rattle.reading.specs.declared.Reading.the-variants.{Slice, End, Refused}
+
+abbrev pub place : ℕ → ℕ → Place
+place start n = record { start = start; len = n }
+
+-- document 01's numbers for the ways in which a tag fails: 5, "no known tag"; 6, "a bad parameter"
+abbrev pub parsedItem : Parsed → Item
+parsedItem (Good v) = Is v
+parsedItem Unsupported = Fails 5
+parsedItem Bad = Fails 6
+
+-- a slice from [ to ]: the tag between them, whose bytes end at its ]
+unfoldable pub tagItem : ℕ → List ℕ → Item
+tagItem at s = pick (leb 2 (length s)) (parsedItem (tagValue (at + (length s - 1)) (take (length s - 1 - 1) (drop 1 s)))) (Fails 5)
+
+-- "Text holds code points 1 to 255 (Latin-1)", else 7
+unfoldable pub textItem : ℕ → List ℕ → Item
+textItem at s = pick (allLatin1 (codes s)) (Is (Text (place at (length s)))) (Fails 7)
+
+-- [[ and ]] are texts of one byte; a stray bracket is no known tag
+abbrev pub shapeItem : Shape → ℕ → List ℕ → Item
+shapeItem Bracket at s = Is (Text (place at 1))
+shapeItem Tag at s = tagItem at s
+shapeItem Stray at s = Fails 5
+shapeItem TextShape at s = textItem at s
+
+-- `Value::try_from`: the slice s, which starts at a place of the message
+unfoldable pub itemOf : ℕ → List ℕ → Item
+itemOf at s = shapeItem (shapeOf s) at s
+
+-- a refusal with its number and place; its detail is 0
+abbrev pub refused : ℕ → ℕ → ℕ → Reading
+refused n start len = Refused (record { number = n; start = start; length = len; detail = 0 })
+
+-- "5 to 8 carry their slice's place"
+abbrev pub itemReading : Item → ℕ → ℕ → Reading
+itemReading (Is v) at n = Slice (place at n) v
+itemReading (Fails k) at n = refused k at n
+
+unfoldable pub sliceReading : ℕ → List ℕ → Reading
+sliceReading at s = itemReading (itemOf at s) at (length s)
+
+-- the slice that starts at the offset
+unfoldable pub readingAt : List ℕ → ℕ → Reading
+readingAt msg offset = sliceReading offset (take (sliceLen (drop offset msg)) (drop offset msg))
+
+-- the checks in order: 2, "the message is longer than 2,048 bytes"; 3, "the message is not well-formed UTF-8"; 4, "the reading offset is past
+-- the message or inside a character"; "end at the message's length"; then the slice
+unfoldable pub reading : List ℕ → ℕ → Reading
+reading msg offset =
+    pick (ltb 2048 (length msg)) (refused 2 0 0)
+    (pick (wellFormed msg)
+    (pick (ltb (length msg) offset) (refused 4 0 0)
+    (pick (insideCharacter msg offset) (refused 4 0 0)
+    (pick (eqb offset (length msg)) End
+    (readingAt msg offset))))
+    (refused 3 0 0))

@@ -1,0 +1,143 @@
+// The reading call: the slice at an offset of a message, with its value.
+ghost use mathlib.Core.Path.{_≡_};
+ghost use Prim.Native.Nat.{_+_, _≤_, _<_};
+ghost use lib.ListN.{length};
+ghost use Rattle.reading.specs.Reading.{parsedItem, tagItem, textItem, itemOf, refused, sliceReading, readingAt, reading};
+use tag::Parsed;
+use token::Shape;
+use value::Place;
+use value::Value;
+
+// What a slice says: its value, or the number of its refusal.
+pub enum Item {
+    Is(Value),
+    Fails(u8),
+}
+
+pub struct Refusal {
+    pub number: u8,
+    pub start: u16,
+    pub length: u16,
+    pub detail: u16,
+}
+
+// The slice at the offset and its value, the end of the message, or a refusal.
+pub enum Reading {
+    Slice(Place, Value),
+    End,
+    Refused(Refusal),
+}
+
+fn parsed_item(p: Parsed) -> Item
+    ensures { λ r. ⌜ r ≡ parsedItem p ⌝ }
+{
+    match p {
+        Parsed::Good(v) => Item::Is(v),
+        Parsed::Unsupported => Item::Fails(5),
+        Parsed::Bad => Item::Fails(6),
+    }
+}
+
+// A slice from [ to ].
+fn tag_item(at: usize, s: &[u8]) -> Item
+    requires { ⌜ at + length (now s) ≤ 65535 ⌝ }
+    ensures { λ r. ⌜ r ≡ tagItem at (now (s .entry)) ⌝ }
+{
+    if 2 <= s.len() {
+        let last = s.len() - 1;
+        return parsed_item(parse::parse_tag(&s[1..last], at + last));
+    }
+    Item::Fails(5)
+}
+
+fn text_item(at: usize, s: &[u8]) -> Item
+    requires { ⌜ at + length (now s) ≤ 65535 ⌝ }
+    ensures { λ r. ⌜ r ≡ textItem at (now (s .entry)) ⌝ }
+{
+    if utf8::latin1(s) {
+        return Item::Is(Value::Text(Place {
+            start: at as u16,
+            len: s.len() as u16,
+        }));
+    }
+    Item::Fails(7)
+}
+
+// `Value::try_from`: the slice s, which starts at a place of the message.
+pub fn item_of(at: usize, s: &[u8]) -> Item
+    requires { ⌜ at + length (now s) ≤ 65535 ⌝ }
+    ensures { λ r. ⌜ r ≡ itemOf at (now (s .entry)) ⌝ }
+{
+    let shape = token::shape_of(s);
+    match shape {
+        Shape::Bracket => Item::Is(Value::Text(Place {
+            start: at as u16,
+            len: 1,
+        })),
+        Shape::Tag => tag_item(at, s),
+        Shape::Stray => Item::Fails(5),
+        Shape::Text => text_item(at, s),
+    }
+}
+
+// A refusal of the whole message or of the offset.
+fn refuse(number: u8) -> Reading
+    ensures { λ r. ⌜ r ≡ refused number 0 0 ⌝ }
+{
+    Reading::Refused(Refusal {
+        number,
+        start: 0,
+        length: 0,
+        detail: 0,
+    })
+}
+
+// The slice s, which starts at a place of the message.
+fn slice_reading(at: usize, s: &[u8]) -> Reading
+    requires { ⌜ at + length (now s) ≤ 65535 ⌝ }
+    ensures { λ r. ⌜ r ≡ sliceReading at (now (s .entry)) ⌝ }
+{
+    let item = item_of(at, s);
+    let start = at as u16;
+    let len = s.len() as u16;
+    match item {
+        Item::Is(v) => Reading::Slice(Place { start, len }, v),
+        Item::Fails(number) => Reading::Refused(Refusal {
+            number,
+            start,
+            length: len,
+            detail: 0,
+        }),
+    }
+}
+
+// The slice at the offset of a message that was looked at.
+fn reading_at(msg: &[u8], offset: usize) -> Reading
+    requires { ⌜ (offset < length (now msg)) × (length (now msg) ≤ 2048) ⌝ }
+    ensures { λ r. ⌜ r ≡ readingAt (now (msg .entry)) offset ⌝ }
+{
+    let end = token::slice_end(msg, offset);
+    slice_reading(offset, &msg[offset..end])
+}
+
+// Reading: message, offset.
+pub fn read(msg: &[u8], offset: usize) -> Reading
+    ensures { λ r. ⌜ r ≡ reading (now (msg .entry)) offset ⌝ }
+{
+    if 2048 < msg.len() {
+        return refuse(2);
+    }
+    if !utf8::well_formed(msg) {
+        return refuse(3);
+    }
+    if msg.len() < offset {
+        return refuse(4);
+    }
+    if utf8::inside_character(msg, offset) {
+        return refuse(4);
+    }
+    if offset == msg.len() {
+        return Reading::End;
+    }
+    reading_at(msg, offset)
+}

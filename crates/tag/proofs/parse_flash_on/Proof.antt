@@ -1,0 +1,19 @@
+use Rattle.base.specs.Pick.{picks, answers}
+use Rattle.param.proofs.Laws.{apart, fits}
+use Rattle.tag.specs.Tag.{flashOn}
+use borrow.Author.Needs.{needs}
+use Rattle.tag.proofs.parse_flash_on.Statement.{statement}
+use Rattle.tag.proofs.parse_flash_on.Tie as tie
+
+pub parse-flash-on-spec : {M : Type 1} → statement M
+parse-flash-on-spec =
+    tie.close (tie.spec
+    (λ c κs. search needs)  -- optional-before-requires
+    (λ c. search needs)  -- enum-known-t
+    (λ c. search needs)  -- enum-told
+    (λ c. unfold flashOn in search (apart, picks, answers) depth 14)  -- returns
+    (λ c κs. search needs)  -- optional-after-requires
+    (λ c. search needs)  -- enum-known-o
+    (λ c. search needs)  -- enum-told-2
+    (λ c. unfold flashOn in search (apart, picks, answers) depth 14)  -- returns-2
+    (λ c. unfold flashOn in search (apart, picks, answers) depth 14))  -- returns-3

@@ -1,0 +1,15 @@
+use Rattle.base.specs.Pick.{picks, answers}
+use Rattle.param.proofs.Laws.{apart, fits}
+use Rattle.tag.specs.Tag.{justificationPage}
+use borrow.Author.Needs.{needs}
+use Rattle.tag.proofs.parse_justification_page.Statement.{statement}
+use Rattle.tag.proofs.parse_justification_page.Tie as tie
+
+pub parse-justification-page-spec : {M : Type 1} → statement M
+parse-justification-page-spec =
+    tie.close (tie.spec
+    (λ c κs. search needs)  -- parse-justification-requires
+    (λ c. search needs)  -- enum-known-j
+    (λ c. search needs)  -- enum-told
+    (λ c. unfold justificationPage in search (apart, picks, answers) depth 14)  -- returns
+    (λ c. unfold justificationPage in search (apart, picks, answers) depth 14))  -- returns-2
