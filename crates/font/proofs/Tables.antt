@@ -1,0 +1,85 @@
+-- The ways on and out of the search for a font, and what holds of one that is found. Assumes nothing.
+use Prim.Native.Nat.{ℕ, _+_, _-_, _≤_, _<_}
+use mathlib.Core.Path.{_≡_, refl, sym, _∙_, ap, subst}
+use mathlib.Core.List.{List, [], _∷_, map}
+use mathlib.Core.Bool.{Bool, true, false}
+use native.Mathlib.Numerals.{add-one}
+use native.Mathlib.Omega.{arith}
+use lib.Dec.{eqb}
+use lib.ListN.{length, getD, take, drop, length-take, length-map, drop-of-length-le}
+use lib.Seq.{drop-cons, getD-take, take-at}
+use borrow.Author.Tests.{eq-eqb, ne-eqb, eqb-true}
+use Rattle.base.specs.Pick.{pick}
+use Rattle.records.proofs.Laws.{never}
+use Rattle.sign.specs.Sign.{Font}
+use Rattle.sign.specs.Given.{entryOf, noFonts}
+use Rattle.sign.specs.Accepted.{Each, each-none, each-more}
+use Rattle.sign.specs.declared.FontEntry.{FontEntry}
+use Rattle.sign.specs.declared.SignFile.{SignFile}
+use Rattle.sign.proofs.Answer.{Accepts}
+use Rattle.font.specs.Table.{Font-is, fontNumbered, numbered, entryFound}
+use Rattle.font.specs.declared.FontFound.{FontFound}
+use Rattle.font.specs.declared.FontFound.the-variants.{Entry, Absent}
+
+-- an array of structs has its length, whatever its elements are read as
+pub mapped-length : (X Y : Type 0) (f : X → Y) (l : List X) (n : ℕ) → length (map f l) ≡ n → length l ≡ n
+mapped-length X Y f l n e = sym (length-map l f) ∙ e
+
+module _ (n i count : ℕ) (fonts : List FontEntry) (w : FontFound) (inv : numbered n (drop i (take count fonts)) ≡ w) where
+  -- no font is left
+  ended : length (take count fonts) ≤ i → Absent ≡ w
+  unfolding numbered
+  ended h = rw (drop-of-length-le (take count fonts) h) at inv
+
+  pub table-stop : i ≡ count → Absent ≡ w
+  table-stop e = ended (simp length-take (omega arith))
+
+  module _ (z : length fonts ≡ 24) where
+    pub table-end : 24 ≤ i → Absent ≡ w
+    table-end h = ended (simp length-take (omega arith))
+
+    module _ (h : i < 24) (p : i ≤ count) (q : i ≡ count → ⊥) (d : FontEntry) where
+      inside : i < length (take count fonts)
+      inside = simp length-take (omega arith)
+
+      within : i < count
+      within = omega arith
+
+      here : pick (eqb (getD fonts i d .number) n) (Entry (getD fonts i d)) (numbered n (drop (i + 1) (take count fonts))) ≡ w
+      unfolding numbered
+      here = rw (add-one i, ← getD-take count fonts i d within) (rw (drop-cons (take count fonts) i d inside) at inv)
+
+      pub table-is : getD fonts i d .number ≡ n → Entry (getD fonts i d) ≡ w
+      table-is e = rw (eq-eqb (getD fonts i d .number) n e) at here
+
+      pub table-on : (getD fonts i d .number ≡ n → ⊥) → numbered n (drop (i + 1) (take count fonts)) ≡ w
+      table-on e = rw (ne-eqb (getD fonts i d .number) n e) at here
+
+-- what is found in the table is what is found among the fonts
+pub numbered-is : (n : ℕ) (fs : List Font) → numbered n (map entryOf fs) ≡ entryFound (fontNumbered n fs)
+unfolding numbered fontNumbered
+numbered-is n [] = refl
+numbered-is n (f ∷ fs) = go (eqb (f .number) n) (numbered-is n fs)
+  where
+    go : (t : Bool) → numbered n (map entryOf fs) ≡ entryFound (fontNumbered n fs) → pick t (Entry (entryOf f)) (numbered n (map entryOf fs)) ≡ entryFound (pick t (Font-is f) (fontNumbered n fs))
+    go true e = refl
+    go false e = e
+
+pub table-holds : (file : List ℕ) (r : SignFile) (a : Accepts file r) (n : ℕ) → numbered n (take (r .count) (r .fonts)) ≡ entryFound (fontNumbered n (a .fs))
+table-holds file r a n = rw list (numbered-is n (a .fs))
+  where
+    list : take (r .count) (r .fonts) ≡ map entryOf (a .fs)
+    list = ap (take (r .count)) (a .table) ∙ take-at (map entryOf (a .fs)) (noFonts (24 - length (a .fs))) (r .count) (length-map (a .fs) entryOf ∙ sym (a .many))
+
+-- a font that is found has the number, and what holds of each font
+module _ (P : Font → Type 0) (n : ℕ) (f : Font) where
+  pub named-good : (fs : List Font) → Each P fs → fontNumbered n fs ≡ Font-is f → (f .number ≡ n) × P f
+  unfolding fontNumbered
+  named-good [] each-none e = never (let z : _≡_ {A = ℕ} 0 1 = cc in z)
+  named-good (g ∷ fs) (each-more p ps) e = go (eqb (g .number) n) refl (named-good fs ps) e
+    where
+      go : (t : Bool) → eqb (g .number) n ≡ t → (fontNumbered n fs ≡ Font-is f → (f .number ≡ n) × P f) → pick t (Font-is g) (fontNumbered n fs) ≡ Font-is f → (f .number ≡ n) × P f
+      go true a k d =
+          let same : g ≡ f = cc in
+          (ap (λ (x : Font). x .number) (sym same) ∙ eqb-true (g .number) n a, subst P same p)
+      go false a k d = k d

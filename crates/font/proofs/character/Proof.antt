@@ -1,0 +1,12 @@
+use borrow.Author.Needs.{needs}
+use Rattle.font.specs.Character.{charactersAt}
+use Rattle.font.proofs.Laws.{code-ways}
+use Rattle.font.proofs.character.Statement.{statement}
+use Rattle.font.proofs.character.Tie as tie
+
+pub character-spec : {M : Type 1} → statement M
+character-spec =
+    tie.close (tie.spec
+    (λ c. search code-ways)  -- returns
+    (λ c κs. search needs)  -- find-requires
+    (λ c. unfold charactersAt in search code-ways))  -- returns-2

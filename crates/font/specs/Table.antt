@@ -1,0 +1,29 @@
+-- A font by its number.
+use Prim.Native.Nat.{ℕ}
+use mathlib.Core.List.{List, [], _∷_}
+use lib.Dec.{eqb}
+use Rattle.base.specs.Pick.{pick}
+use Rattle.sign.specs.Sign.{Font}
+use Rattle.sign.specs.Given.{entryOf}
+use Rattle.sign.specs.declared.FontEntry.{FontEntry}
+use Rattle.font.specs.declared.FontFound.{FontFound}
+use Rattle.font.specs.declared.FontFound.the-variants.{Entry, Absent}
+
+-- among the fonts of a file
+pub data Named : Type 0 where
+  Font-is : Font → Named
+  No-font : Named
+
+unfoldable pub fontNumbered : ℕ → List Font → Named
+fontNumbered n [] = No-font
+fontNumbered n (f ∷ fs) = pick (eqb (f .number) n) (Font-is f) (fontNumbered n fs)
+
+-- among the entries of the table
+unfoldable pub numbered : ℕ → List FontEntry → FontFound
+numbered n [] = Absent
+numbered n (e ∷ es) = pick (eqb (e .number) n) (Entry e) (numbered n es)
+
+-- the entry of what is found among the fonts
+abbrev pub entryFound : Named → FontFound
+entryFound (Font-is f) = Entry (entryOf f)
+entryFound No-font = Absent

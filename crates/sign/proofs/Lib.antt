@@ -1,0 +1,5 @@
+pub mod Laws
+pub mod Fonts
+pub mod Whole
+pub mod Accepted
+pub mod Answer

@@ -1,0 +1,5 @@
+pub mod Sign
+pub mod Given
+pub mod Reading
+pub mod Accepted
+pub mod Examples

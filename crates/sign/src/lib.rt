@@ -1,0 +1,252 @@
+// A sign file: its configuration and its table of fonts, read once.
+use records::Config;
+use records::First;
+use records::Head;
+ghost use mathlib.Core.Path.{_≡_};
+ghost use Prim.Native.Nat.{ℕ, _≤_, _<_};
+ghost use lib.ListN.{length, getD};
+ghost use Rattle.sign.specs.Sign.{bitmapLen, signFile};
+ghost use Rattle.sign.specs.Given.{noFonts, refusalAt, given};
+ghost use Rattle.sign.specs.Reading.{fontEntry, fontIn, fontAt, charIn, charAt, Ran, givenFrom};
+
+// A font of the file: its values, the offset of its first character's record, and how many it has.
+pub struct FontEntry {
+    pub number: u8,
+    pub height: u8,
+    pub char_spacing: u8,
+    pub line_spacing: u8,
+    pub version_id: u16,
+    pub first: usize,
+    pub characters: usize,
+}
+
+pub enum Outcome {
+    Accepted,
+    RefusedAt(usize),
+}
+
+// The first count fonts are the file's, if it is accepted.
+pub struct SignFile {
+    pub outcome: Outcome,
+    pub config: Config,
+    pub fonts: [FontEntry; 24],
+    pub count: usize,
+}
+
+pub enum FontAt {
+    Is(FontEntry),
+    Not,
+}
+
+pub enum CharAt {
+    Code(u16, usize),
+    Other,
+}
+
+// How many characters there are in a row, and the offset past them.
+pub struct Row {
+    pub count: usize,
+    pub next: usize,
+}
+
+// The bytes of a bitmap.
+fn bitmap_len(width: u8, height: u8) -> usize
+    ensures { λ r. ⌜ (r ≡ bitmapLen width height) × (r < 65536) ⌝ }
+{
+    (base::index(width) * base::index(height) + 7) / 8
+}
+
+// A font's entry, with no characters yet.
+fn entry_in(body: &[u8], first: usize) -> FontEntry
+    requires { ⌜ length (now body) ≡ 6 ⌝ }
+    ensures { λ r. ⌜ r ≡ fontEntry (now (body .entry)) first ⌝ }
+{
+    FontEntry {
+        number: body[0],
+        height: body[1],
+        char_spacing: body[2],
+        line_spacing: body[3],
+        version_id: records::le16(body, 4),
+        first,
+        characters: 0,
+    }
+}
+
+// A font, if its record's kind and body keep their rules.
+fn font_in(kind: u16, body: &[u8], end: usize) -> FontAt
+    ensures { λ r. ⌜ r ≡ fontIn kind (now (body .entry)) end ⌝ }
+{
+    if kind != 2 {
+        return FontAt::Not;
+    }
+    if body.len() != 6 {
+        return FontAt::Not;
+    }
+    if body[0] == 0 {
+        return FontAt::Not;
+    }
+    if body[1] == 0 {
+        return FontAt::Not;
+    }
+    FontAt::Is(entry_in(body, end))
+}
+
+// The font whose record is at an offset.
+fn font_at(file: &[u8], at: usize) -> FontAt
+    ensures { λ r. ⌜ r ≡ fontAt (now (file .entry)) at ⌝ }
+{
+    match records::record_at(file, at) {
+        Head::Whole { kind, start, end } => font_in(kind, &file[start..end], end),
+        Head::Short => FontAt::Not,
+    }
+}
+
+// A character's number, if its record's kind and body keep their rules.
+fn char_in(height: u8, kind: u16, body: &[u8], end: usize) -> CharAt
+    ensures { λ r. ⌜ r ≡ charIn height kind (now (body .entry)) end ⌝ }
+{
+    if kind != 3 {
+        return CharAt::Other;
+    }
+    if body.len() < 3 {
+        return CharAt::Other;
+    }
+    if body.len() != 3 + bitmap_len(body[2], height) {
+        return CharAt::Other;
+    }
+    let code = records::le16(body, 0);
+    if code == 0 {
+        return CharAt::Other;
+    }
+    CharAt::Code(code, end)
+}
+
+// The character whose record is at an offset.
+fn char_at(file: &[u8], at: usize, height: u8) -> CharAt
+    ensures { λ r. ⌜ r ≡ charAt (now (file .entry)) at height ⌝ }
+{
+    match records::record_at(file, at) {
+        Head::Whole { kind, start, end } => char_in(height, kind, &file[start..end], end),
+        Head::Short => CharAt::Other,
+    }
+}
+
+// The characters of a font, in a row: the table has at a number the place of the font in which it was last used.
+fn read_row(file: &[u8], from: usize, height: u8, place: u8, table: &mut [u8; 65536]) -> Row
+    requires { ⌜ from ≤ length (now file) ⌝ }
+    requires { ⌜ length (now table) ≡ 65536 ⌝ }
+    requires { ⌜ ((n : ℕ) → getD (now table) n 0 < place) ⌝ }
+    ensures { λ r. ⌜ Ran (now (file .entry)) from height place (now (table .exit)) (r .count) (r .next) ⌝ }
+{
+    let mut n: usize = 0;
+    let mut at = from;
+    while at < file.len() {
+        let CharAt::Code(code, end) = char_at(file, at, height) else {
+            return Row { count: n, next: at };
+        };
+        if n == 256 {
+            return Row { count: n, next: at };
+        }
+        let k = code as usize;
+        if table[k] == place {
+            return Row { count: n, next: at };
+        }
+        table[k] = place;
+        n += 1;
+        at = end;
+    }
+    Row { count: n, next: at }
+}
+
+// A table with no font.
+fn no_fonts() -> [FontEntry; 24]
+    ensures { λ r. ⌜ r ≡ noFonts 24 ⌝ }
+{
+    let blank = FontEntry {
+        number: 0,
+        height: 0,
+        char_spacing: 0,
+        line_spacing: 0,
+        version_id: 0,
+        first: 0,
+        characters: 0,
+    };
+    [blank; 24]
+}
+
+// A file whose record at an offset fails.
+fn refused(at: usize) -> SignFile
+    ensures { λ r. ⌜ r ≡ refusalAt at ⌝ }
+{
+    let config = Config {
+        width: 0,
+        height: 0,
+        char_width: 0,
+        char_height: 0,
+        font: 0,
+        line_just: 0,
+        page_just: 0,
+        on_time: 0,
+        off_time: 0,
+        tags: 0,
+    };
+    SignFile {
+        outcome: Outcome::RefusedAt(at),
+        config,
+        fonts: no_fonts(),
+        count: 0,
+    }
+}
+
+// The fonts from an offset on, each with its characters.
+fn read_fonts(file: &[u8], from: usize, config: Config) -> SignFile
+    requires { ⌜ from ≤ length (now file) ⌝ }
+    ensures { λ r. ⌜ r ≡ givenFrom (now (file .entry)) from config ⌝ }
+{
+    let mut table = [0u8; 65536];
+    let mut used = [0u8; 256];
+    let mut fonts = no_fonts();
+    let mut count: usize = 0;
+    let mut at = from;
+    while at < file.len() {
+        let FontAt::Is(f) = font_at(file, at) else {
+            return refused(at);
+        };
+        if count == 24 {
+            return refused(at);
+        }
+        let k = f.number as usize;
+        if used[k] == 1 {
+            return refused(at);
+        }
+        used[k] = 1;
+        let row = read_row(file, f.first, f.height, count as u8 + 1, &mut table);
+        let mut entry = f;
+        entry.characters = row.count;
+        fonts[count] = entry;
+        count += 1;
+        at = row.next;
+    }
+    SignFile {
+        outcome: Outcome::Accepted,
+        config,
+        fonts,
+        count,
+    }
+}
+
+// The whole file.
+pub fn read_sign(file: &[u8]) -> SignFile
+    ensures { λ r. ⌜ r ≡ given (signFile (now (file .entry))) ⌝ }
+{
+    if 65535 < file.len() {
+        return refused(0);
+    }
+    let Head::Whole { kind, start, end } = records::record_at(file, 0) else {
+        return refused(0);
+    };
+    let First::Is(config) = records::config_of(kind, &file[start..end]) else {
+        return refused(0);
+    };
+    read_fonts(file, end, config)
+}
