@@ -23,18 +23,18 @@ some n e = ltb-true 0 n e
 
 -- a list's parts are bytes
 module _ where
-  bytes-take : (n : ℕ) (l : List ℕ) → Bytes l → Bytes (take n l)
+  pub bytes-take : (n : ℕ) (l : List ℕ) → Bytes l → Bytes (take n l)
   bytes-take zero l h i = omega arith
   bytes-take (suc n) [] h i = omega arith
   bytes-take (suc n) (b ∷ l) h zero = h 0
   bytes-take (suc n) (b ∷ l) h (suc i) = bytes-take n l (λ j. h (suc j)) i
 
-  bytes-drop : (n : ℕ) (l : List ℕ) → Bytes l → Bytes (drop n l)
+  pub bytes-drop : (n : ℕ) (l : List ℕ) → Bytes l → Bytes (drop n l)
   bytes-drop zero l h i = h i
   bytes-drop (suc n) [] h i = omega arith
   bytes-drop (suc n) (b ∷ l) h i = bytes-drop n l (λ j. h (suc j)) i
 
-word : (k : ℕ) (l : List ℕ) → Bytes l → littleAt 2 k l < 65536
+pub word : (k : ℕ) (l : List ℕ) → Bytes l → littleAt 2 k l < 65536
 unfolding littleAt
 word k l h = omega (arith, h k, h (k + 1))
 

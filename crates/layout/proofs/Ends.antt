@@ -1,0 +1,141 @@
+-- A listing ends: after the answers of its pages comes the end, or a refusal before.
+use Prim.Native.Nat.{ℕ, zero, suc, _+_, _*_, _≤_, _<_}
+use native.Mathlib.Omega.{arith}
+use native.Mathlib.Nat.{add-zero, zero-add}
+use mathlib.Core.Path.{_≡_, refl, sym, ap, subst}
+use mathlib.Core.Bool.{Bool, true, false}
+use mathlib.Core.Option.{Option, none, some}
+use mathlib.Core.List.{List, [], _∷_, _++_}
+use lib.Dec.{ltb}
+use borrow.Author.Tests.{ltb-true, ltb-false}
+use lib.ListN.{length}
+use Rattle.base.specs.Pick.{pick}
+use Rattle.utf8.specs.Utf8.{wellFormed}
+use Rattle.sign.specs.Sign.{Sign, Accepted, RefusedAt, signFile}
+use Rattle.reading.specs.declared.Refusal.{Refusal}
+use Rattle.layout.specs.declared.Span.{Span}
+use Rattle.layout.specs.declared.Answer.{Answer}
+use Rattle.layout.specs.declared.Answer.the-variants.{On, Off, End, Refused}
+use Rattle.layout.specs.Types.{Item, items, Entry, State, Board}
+use Rattle.layout.specs.Fonts.{boardOf}
+use Rattle.layout.specs.Place.{passRecords}
+use Rattle.layout.specs.Read.{Step, refuse, go, emit, cut, turn, step, Scan, scan, Event, pass, close, stop, stopIf, newPage, start, follow, read, opening, events}
+use Rattle.layout.specs.Listing.{Page, on, off, refused, stopAt, offs, passStop, walk, pages, Result, numbered, refusing, listing}
+use Rattle.layout.specs.Demand.{roleIn, breaks, pageBreaks, Shows, Stops, StopsBy}
+use Rattle.layout.proofs.Cover.{Fair, step-is-fair, Honest}
+use Rattle.layout.proofs.Items.{items-honest}
+use Rattle.layout.proofs.Calls.{answer-on}
+
+-- ---- the pages of a message: two for each end of a page at most
+
+abbrev closes : List Event → ℕ
+closes [] = 0
+closes (pass r es ∷ evs) = closes evs
+closes (close a b ∷ evs) = suc (closes evs)
+closes (stop x ∷ evs) = closes evs
+
+offs-le : (n : ℕ) (l : List Page) → length (offs n l) ≤ suc (length l)
+offs-le zero l = omega arith
+offs-le (suc n) l = omega arith
+
+stop-le : (f : Option Refusal) (l : List Page) (n : ℕ) → length l ≤ n → 0 < n → length (stopAt f l) ≤ n
+stop-le none l n h p = h
+stop-le (some r) l n h p = p
+
+walk-le : (s : Board) (evs : List Event) (a b : ℕ) (rs : List Span) (n : ℕ) → length (walk s evs a b rs n) ≤ 2 * suc (closes evs)
+walk-le s [] a b rs n = omega (arith, offs-le b [])
+walk-le s (pass r es ∷ evs) a b rs n = stop-le (passStop s n r es) _ _ (walk-le s evs a b (rs ++ passRecords s r es) (suc n)) (omega arith)
+walk-le s (close p q ∷ evs) a b rs n = omega (arith, offs-le b (walk s evs p q [] 0), walk-le s evs p q [] 0)
+walk-le s (stop r ∷ evs) a b rs n = omega arith
+
+closes-stop : (f : Option Refusal) (l : List Event) → closes (stopIf f l) ≤ closes l
+closes-stop none l = omega arith
+closes-stop (some r) l = omega arith
+
+module _ (msg : List ℕ) (s : Board) (it : Item) (its : List Item) (k : ℕ → ℕ → State → Bool → List Entry → List Event)
+    (hyp : (a b : ℕ) (st : State) (bl : Bool) (acc : List Entry) → closes (k a b st bl acc) ≤ pageBreaks its) where
+  follow-closes : (a b : ℕ) (st : State) (acc : List Entry) (t : Step) → Fair msg s st it t → closes (follow s a b st acc its k t) ≤ pageBreaks (it ∷ its)
+  follow-closes a b st acc (refuse r) f = omega arith
+  follow-closes a b st acc (go st′ bl) f = omega (arith, hyp a b st′ bl acc)
+  follow-closes a b st acc (emit e st′ bl) f = omega (arith, hyp a b st′ bl (acc ++ (e ∷ [])))
+  follow-closes a b st acc (cut st′) f = omega (arith, hyp a b st′ true [])
+  follow-closes a b st acc turn f =
+      let c : Scan = scan s a b its in
+      let e : breaks (roleIn (it .says)) ≡ 1 = ap breaks (f .2) in
+      omega (arith, closes-stop (c .fault) (k (c .on) (c .off) (newPage s st) true []), hyp (c .on) (c .off) (newPage s st) true [])
+
+read-closes : (msg : List ℕ) (s : Board) (its : List Item) (a b : ℕ) (st : State) (bl : Bool) (acc : List Entry) → Honest its
+    → closes (read msg s its a b st bl acc) ≤ pageBreaks its
+read-closes msg s [] a b st bl acc h = omega arith
+read-closes msg s (it ∷ its) a b st bl acc h =
+    follow-closes msg s it its (read msg s its) (λ a b st bl acc. read-closes msg s its a b st bl acc (h .1)) a b st acc (step msg s st bl it)
+    (step-is-fair msg s st bl it (h .0))
+
+pages-le : (msg : List ℕ) (s : Board) → length (pages msg s (items msg)) ≤ 2 * suc (pageBreaks (items msg))
+unfolding pages events
+pages-le msg s =
+    let o : Scan = opening s (items msg) in
+    let l : List Event = read msg s (items msg) (o .on) (o .off) (start s) true [] in
+    omega (arith, walk-le s (stopIf (o .fault) l) (o .on) (o .off) [] 0, closes-stop (o .fault) l, read-closes msg s (items msg) (o .on) (o .off) (start s) true [] (items-honest msg))
+
+-- ---- the first answer that stops
+
+up-to : (P : ℕ → Type 0) (i : ℕ) → ((n : ℕ) → n < i → P n) → P i → (n : ℕ) → n < suc i → P n
+up-to P i h p n m = look (ltb n i) refl
+  where
+    look : (t : Bool) → ltb n i ≡ t → P n
+    look true q = h n (ltb-true n i q)
+    look false q =
+        let z : n ≡ i = omega (arith, ltb-false n i q) in
+        rw z p
+
+module _ (file msg : List ℕ) (lent : ℕ → List Span) where
+  abbrev answer-at : ℕ → Answer
+  answer-at n = listing file msg n (lent n)
+
+  -- the answer i stops, or the answers go on
+  stops-or : (i top : ℕ) → i ≤ top → ((n : ℕ) → n < i → Shows (answer-at n)) → (Shows (answer-at i) → StopsBy file msg lent top) → (a : Answer)
+      → answer-at i ≡ a → StopsBy file msg lent top
+  stops-or i top m h more (On d n) q = more (rw q tt)
+  stops-or i top m h more (Off d) q = more (rw q tt)
+  stops-or i top m h more (End n) q = record { last = i; soon = m; shows = h; stops = rw q tt }
+  stops-or i top m h more (Refused r) q = record { last = i; soon = m; shows = h; stops = rw q tt }
+
+  -- none of the answers before i stops, and i + k does
+  first-stop : (i k : ℕ) → ((n : ℕ) → n < i → Shows (answer-at n)) → Stops (answer-at (i + k)) → StopsBy file msg lent (i + k)
+  first-stop i zero h e = record { last = i; soon = omega arith; shows = h; stops = rw (add-zero i) at e }
+  first-stop i (suc k) h e =
+      let q : i + suc k ≡ suc i + k = omega arith in
+      stops-or i (i + suc k) (omega arith) h
+      (λ s. subst (λ (j : ℕ). StopsBy file msg lent j) (sym q) (first-stop (suc i) k (up-to (λ n. Shows (answer-at n)) i h s) (subst (λ (j : ℕ). Stops (answer-at j)) q e)))
+      (answer-at i) refl
+
+  stop-at : (k top : ℕ) → k ≤ top → Stops (answer-at k) → StopsBy file msg lent top
+  stop-at k top m e =
+      let r : StopsBy file msg lent (0 + k) = first-stop 0 k (λ n l. absurd (omega arith)) (rw (zero-add k) e) in
+      record { last = r .last; soon = omega (arith, r .soon); shows = r .shows; stops = r .stops }
+
+-- past the last page
+numbered-stops : (c : ℕ) (l : List Page) → Stops ((numbered c l (length l)) .answer)
+numbered-stops c [] = tt
+numbered-stops c (on d rs ∷ l) = numbered-stops (suc c) l
+numbered-stops c (off d ∷ l) = numbered-stops (suc c) l
+numbered-stops c (refused x ∷ l) = tt
+
+checks-stop : (t u v : Bool) (l : Result) → Stops (l .answer) → Stops ((pick t (refusing 2 0) (pick u (pick v (refusing 4 0) l) (refusing 3 0))) .answer)
+checks-stop true u v l h = tt
+checks-stop false false v l h = tt
+checks-stop false true true l h = tt
+checks-stop false true false l h = h
+
+pub always-stops : (file msg : List ℕ) (lent : ℕ → List Span) → StopsBy file msg lent (2 * suc (pageBreaks (items msg)))
+always-stops file msg lent = look (signFile file) refl
+  where
+    look : (s : Sign) → signFile file ≡ s → StopsBy file msg lent (2 * suc (pageBreaks (items msg)))
+    look (RefusedAt start) e = stop-at file msg lent 0 _ (omega arith) (rw (answer-on file msg lent (RefusedAt start) e 0) tt)
+    look (Accepted c fs) e =
+        let ps : List Page = pages msg (boardOf c fs) (items msg) in
+        let n : ℕ = length ps in
+        stop-at file msg lent n _ (pages-le msg (boardOf c fs))
+        (rw (answer-on file msg lent (Accepted c fs) e n)
+        (checks-stop (ltb 2048 (length msg)) (wellFormed msg) (ltb (length (lent n)) 1400) (numbered 0 ps n) (numbered-stops 0 ps)))

@@ -1,0 +1,12 @@
+pub mod Geometry
+pub mod PassLaws
+pub mod Cover
+pub mod RectLaws
+pub mod Tags
+pub mod Items
+pub mod Pages
+pub mod Calls
+pub mod Ends
+pub mod Room
+pub mod Places
+pub mod Bounds

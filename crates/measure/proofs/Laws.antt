@@ -1,0 +1,117 @@
+-- The ways on and out of the loop over a text. Assumes nothing.
+use Prim.Native.Nat.{ℕ, zero, suc, _+_, _*_, _≤_, _<_}
+use mathlib.Core.Path.{_≡_, refl}
+use mathlib.Core.List.{List, [], _∷_}
+use mathlib.Core.Bool.{Bool, true, false}
+use native.Mathlib.Omega.{arith}
+use lib.Dec.{ltb, eqb}
+use lib.ListN.{length, take, drop}
+use lib.Seq.{take-all}
+use borrow.Author.Tests.{lt-ltb, le-ltb, ne-eqb}
+use Rattle.base.specs.Pick.{pick}
+use Rattle.utf8.specs.Utf8.{codes, codeAt}
+use Rattle.utf8.specs.declared.Code.{Code}
+use Rattle.utf8.proofs.Laws.{codes-next, codes-end, code-less, len-is}
+use Rattle.records.specs.Record.{Piece, Record, CutShort, bodyLen, kindOf, whole, firstPiece, restLen, cutFrom, piecesAt}
+use Rattle.sign.specs.Sign.{Character, characterOf, charactersOf}
+use Rattle.sign.specs.Accepted.{Each, each-none, each-more, Bytes}
+use Rattle.sign.specs.declared.FontEntry.{FontEntry}
+use Rattle.sign.proofs.Accepted.{bytes-take, bytes-drop, word}
+use Rattle.font.specs.Character.{lookup, characterIn, charactersAt}
+use Rattle.font.specs.declared.Found.{Found}
+use Rattle.font.specs.declared.Found.the-variants.{Is, Missing as Absent}
+use Rattle.measure.specs.Measure.{widened, after, widthAfter, textWidth}
+use Rattle.measure.specs.declared.Measure.{Measure}
+use Rattle.measure.specs.declared.Measure.the-variants.{Width, Missing}
+
+-- a character's number has 16 bits
+abbrev Word : Character → Type 0
+Word ch = ch .number < 65536
+
+module _ (at kind : ℕ) (body : List ℕ) (ps : List Piece) where
+  word-record : Word (characterOf at body) → Each Word (charactersOf ps) → Each Word (charactersOf (Record at kind body ∷ ps))
+  unfolding charactersOf
+  word-record h r = go (eqb kind 3)
+    where
+      go : (t : Bool) → Each Word (pick t (characterOf at body ∷ charactersOf ps) [])
+      go true = each-more h r
+      go false = each-none
+
+words-in : (l : List ℕ) (at k : ℕ) → Bytes l → Each Word (charactersOf (cutFrom at k l))
+unfolding cutFrom firstPiece charactersOf
+words-in [] at k h = each-none
+words-in (b ∷ l) at (suc k) h = words-in l (suc at) k (λ i. h (suc i))
+words-in (b ∷ l) at zero h = go (whole (b ∷ l)) (words-in l (suc at) (restLen (b ∷ l)) (λ i. h (suc i)))
+  where
+    n : ℕ
+    n = bodyLen (b ∷ l)
+
+    go : (t : Bool) → Each Word (charactersOf (cutFrom (suc at) (restLen (b ∷ l)) l)) → Each Word (charactersOf (pick t (Record at (kindOf (b ∷ l)) (take n (drop 4 (b ∷ l)))) (CutShort at) ∷ cutFrom (suc at) (restLen (b ∷ l)) l))
+    go true r =
+        word-record at (kindOf (b ∷ l)) (take n (drop 4 (b ∷ l))) (cutFrom (suc at) (restLen (b ∷ l)) l)
+        (word 0 (take n (drop 4 (b ∷ l))) (bytes-take n (drop 4 (b ∷ l)) (bytes-drop 4 (b ∷ l) h))) r
+    go false r = each-none
+
+-- so no character has a longer code
+lookup-wide : (code n : ℕ) (chs : List Character) → 65535 < code → Each Word chs → Absent ≡ lookup code (take n chs)
+unfolding lookup
+lookup-wide code zero chs h w = refl
+lookup-wide code (suc n) [] h each-none = refl
+lookup-wide code (suc n) (ch ∷ chs) h (each-more p ps) = rw (ne-eqb (ch .number) code (λ e. absurd (omega arith))) (lookup-wide code n chs h ps)
+
+pub code-wide : (file : List ℕ) (entry : FontEntry) (code : ℕ) → Bytes file → 65535 < code → Absent ≡ characterIn code (charactersAt file entry)
+unfolding characterIn charactersAt piecesAt
+code-wide file entry code b h =
+    rw (ne-eqb code 0 (λ e. absurd (omega arith)))
+    (lookup-wide code (entry .characters) (charactersOf (cutFrom (entry .first) 0 (drop (entry .first) file))) h (words-in (drop (entry .first) file) (entry .first) 0 (bytes-drop (entry .first) file b)))
+
+-- `wider`: s and m are the spacing and the character's width
+module _ (w spacing more s m : ℕ) (p : s ≡ spacing) (q : m ≡ more) where
+  pub wider-more : 0 < w → w + (s + m) ≡ widened w spacing more
+  unfolding widened
+  wider-more h = rw (p, q, lt-ltb 0 w h)
+
+  pub wider-first : w ≤ 0 → m ≡ widened w spacing more
+  unfolding widened
+  wider-first h = rw (le-ltb 0 w h) (omega arith)
+
+pub ruleset wider-ways = (wider-more, wider-first)
+
+-- `short_width`
+widened-le : (w spacing more : ℕ) → spacing < 256 → more < 256 → widened w spacing more ≤ w + 510
+unfolding widened
+widened-le w spacing more h k = go (ltb 0 w)
+  where
+    go : (t : Bool) → w + (pick t spacing 0 + more) ≤ w + 510
+    go true = omega arith
+    go false = omega arith
+
+module _ (text : List ℕ) (at w : ℕ) (chs : List Character) (spacing : ℕ) (m : Measure) (inv : widthAfter chs spacing w (codes (drop at text)) ≡ m) where
+  pub width-end : length text ≤ at → Width w ≡ m
+  unfolding widthAfter
+  width-end h = rw (codes-end text at h) at inv
+
+  module _ (h : at < length text) (r : Code) (e : r ≡ codeAt text at) (f : Found) (p : f ≡ characterIn (r .code) chs) where
+    here : after f (r .code) (λ more. widthAfter chs spacing (widened w spacing more) (codes (drop (at + r .len) text))) ≡ m
+    unfolding widthAfter
+    here = rw p (rw (codes-next text at r e h) at inv)
+
+    pub width-missing : f ≡ Absent → Missing (r .code) ≡ m
+    width-missing q = rw q at here
+
+    pub width-on : (more bitmap : ℕ) → f ≡ Is more bitmap → (v : ℕ) → v ≡ widened w spacing more → widthAfter chs spacing v (codes (drop (at + r .len) text)) ≡ m
+    width-on more bitmap q v d = rw d (rw q at here)
+
+-- the width is at most 510 for each byte
+pub width-fits : (text : List ℕ) (at w spacing more v : ℕ) (r : Code) → r ≡ codeAt text at → v ≡ widened w spacing more → spacing < 256 → more < 256 → w ≤ 510 * at → v ≤ 510 * (at + r .len)
+width-fits text at w spacing more v r e d s k b = omega (arith, widened-le w spacing more s k, len-is text at r e)
+
+pub ruleset width-ways = (width-end, width-missing, width-on, code-less)
+
+pub width-start : (chs : List Character) (spacing : ℕ) (text : List ℕ) → widthAfter chs spacing 0 (codes (drop 0 text)) ≡ textWidth chs spacing (codes text)
+unfolding textWidth
+width-start chs spacing text = refl
+
+-- `text_width`: a short text is all of it
+pub width-all : (chs : List Character) (spacing : ℕ) (text : List ℕ) (r : Measure) → r ≡ textWidth chs spacing (codes text) → length text ≤ 65535 → r ≡ textWidth chs spacing (codes (take 65535 text))
+width-all chs spacing text r e h = rw (take-all 65535 text h) e

@@ -1,0 +1,17 @@
+use borrow.Author.Needs.{needs}
+use native.Mathlib.Omega.{arith}
+use mathlib.Core.Path.{sym}
+use lib.ListN.{length-take}
+use lib.Seq.{length-take-le}
+use Rattle.measure.proofs.Laws.{width-all}
+use Rattle.measure.proofs.text_width.Statement.{statement}
+use Rattle.measure.proofs.text_width.Tie as tie
+
+pub text-width-spec : {M : Type 1} → statement M
+text-width-spec =
+    tie.close (tie.spec
+    (λ c κs. search needs)  -- short-width-requires
+    (λ c. search (width-all, needs))  -- returns
+    (λ c. sym (length-take-le 65535 (c .before .before .before .before .args .text .now) (search needs)))  -- slice-aggregate-short-width
+    (λ c κs. simp length-take (omega arith))  -- short-width-requires-2
+    (λ c. search needs))  -- returns-2
