@@ -3,13 +3,9 @@ use Prim.Native.Nat.{ℕ, zero, suc, _+_, _<_}
 use native.Mathlib.Omega.{arith}
 use native.Mathlib.Nat.{add-zero, zero-add}
 use mathlib.Core.Path.{_≡_, refl, sym, ap, _∙_}
-use mathlib.Core.Bool.{Bool, true, false}
 use mathlib.Core.List.{List, [], _∷_, _++_}
-use lib.Dec.{ltb}
 use lib.ListN.{length, drop}
 use lib.Seq.{take-append-seam}
-use Rattle.base.specs.Pick.{pick}
-use Rattle.utf8.specs.Utf8.{wellFormed}
 use Rattle.records.specs.declared.Config.{Config}
 use Rattle.sign.specs.Sign.{Font, Sign, Accepted, RefusedAt, signFile}
 use Rattle.layout.specs.declared.Span.{Span}
@@ -17,8 +13,9 @@ use Rattle.layout.specs.declared.Answer.{Answer}
 use Rattle.layout.specs.declared.Answer.the-variants.{On, Off, End, Refused}
 use Rattle.layout.specs.Types.{items, refusal}
 use Rattle.layout.specs.Fonts.{boardOf}
-use Rattle.layout.specs.Listing.{Page, on, off, refused, pages, answerOf, recordsOf, Result, past, numbered, refusing, resultOn, result, listing, after}
+use Rattle.layout.specs.Listing.{Page, on, off, refused, pages, answerOf, recordsOf, Result, past, numbered, resultOn, result, listing, after}
 use Rattle.layout.specs.Demand.{Shows, Whole, counted, listed, Demand3}
+use Rattle.layout.proofs.Checks.{accepted-result, result-on, answer-on}
 use Rattle.layout.proofs.Pages.{NoRefusal, records, Told, told}
 
 -- ---- one call that is not refused
@@ -36,18 +33,10 @@ shows-runs (Off d) h = tt
 shows-runs (End n) h = absurd h
 shows-runs (Refused r) h = absurd h
 
-checks : (t u v : Bool) (r₂ r₄ l r₃ : Result) → (Runs (r₂ .answer) → ⊥) → (Runs (r₄ .answer) → ⊥) → (Runs (r₃ .answer) → ⊥)
-    → Runs ((pick t r₂ (pick u (pick v r₄ l) r₃)) .answer) → pick t r₂ (pick u (pick v r₄ l) r₃) ≡ l
-checks true u v r₂ r₄ l r₃ a b c h = absurd (a h)
-checks false false v r₂ r₄ l r₃ a b c h = absurd (c h)
-checks false true true r₂ r₄ l r₃ a b c h = absurd (b h)
-checks false true false r₂ r₄ l r₃ a b c h = refl
-
 taken : (c : Config) (fs : List Font) (msg : List ℕ) (n room : ℕ) → Runs ((resultOn (Accepted c fs) msg n room) .answer)
-    → resultOn (Accepted c fs) msg n room ≡ numbered 0 (pages msg (boardOf c fs) (items msg)) n
-taken c fs msg n room h =
-    checks (ltb 2048 (length msg)) (wellFormed msg) (ltb room 1400) (refusing 2 0) (refusing 4 0) (numbered 0 (pages msg (boardOf c fs) (items msg)) n) (refusing 3 0)
-    (λ x. x) (λ x. x) (λ x. x) h
+    → resultOn (Accepted c fs) msg n room ≡ numbered 0 (pages (boardOf msg c fs) (items msg)) n
+taken c fs msg n room =
+    accepted-result msg n room (λ r. Runs (r .answer) → r ≡ numbered 0 (pages (boardOf msg c fs) (items msg)) n) c fs (λ k h. absurd h) (λ p q h. refl)
 
 -- ---- the answers in a row
 
@@ -129,28 +118,19 @@ module _ (file msg : List ℕ) (lent : ℕ → List Span) where
       ∙ ap (λ (x : List Span). recordsOf p ++ x) (gathered (suc c) (suc i) l (no-refusal-rest p l h) e₁)
       ∙ sym (records-cons p l)
 
-  module _ (s : Sign) (e : signFile file ≡ s) (n : ℕ) where
-    pub result-on : result file msg n (length (lent n)) ≡ resultOn s msg n (length (lent n))
-    unfolding result
-    result-on = ap (λ (x : Sign). resultOn x msg n (length (lent n))) e
-
-    pub answer-on : listing file msg n (lent n) ≡ (resultOn s msg n (length (lent n))) .answer
-    unfolding listing
-    answer-on = ap (λ (r : Result). r .answer) result-on
-
   refused-end : (n k start : ℕ) → signFile file ≡ RefusedAt start → listing file msg n (lent n) ≡ End k → ⊥
   refused-end n k start e h =
-      let a : listing file msg n (lent n) ≡ Refused (refusal 1 start 0 0) = answer-on (RefusedAt start) e n in
+      let a : listing file msg n (lent n) ≡ Refused (refusal 1 start 0 0) = answer-on file msg n (lent n) (RefusedAt start) e in
       let z : _≡_ {A = ℕ} 0 1 = cc in
       omega arith
 
   module _ (c : Config) (fs : List Font) (acc : signFile file ≡ Accepted c fs) where
     abbrev ps : List Page
-    ps = pages msg (boardOf c fs) (items msg)
+    ps = pages (boardOf msg c fs) (items msg)
 
     -- a call that is not refused
     result-is : (n : ℕ) → Runs (listing file msg n (lent n)) → result file msg n (length (lent n)) ≡ numbered 0 ps n
-    result-is n h = result-on (Accepted c fs) acc n ∙ taken c fs msg n (length (lent n)) (rw (answer-on (Accepted c fs) acc n) at h)
+    result-is n h = result-on file msg n (lent n) (Accepted c fs) acc ∙ taken c fs msg n (length (lent n)) (rw (answer-on file msg n (lent n) (Accepted c fs) acc) at h)
 
     answer-is : (n : ℕ) → Runs (listing file msg n (lent n)) → listing file msg n (lent n) ≡ (numbered 0 ps n) .answer
     unfolding listing
@@ -182,6 +162,8 @@ module _ (file msg : List ℕ) (lent : ℕ → List Span) where
           rising = rw q (t .rising);
           spans-listed = q ∙ t .listed;
           passes = t .passes;
+          inside = rw q (t .inside);
+          inside-down = rw q (t .inside-down);
         }
 
 -- Demand 3

@@ -12,14 +12,21 @@ use Rattle.base.specs.Pick.{pick}
 use Rattle.value.specs.declared.OptFont.{OptFont}
 use Rattle.value.specs.declared.OptFont.the-variants.{Some as SomeFont, None as NoFont}
 use Rattle.value.specs.declared.OptNum.{OptNum}
+use Rattle.value.specs.declared.OptNum.the-variants.{Some, None}
 use Rattle.value.specs.declared.Value.{Value}
 use Rattle.value.specs.declared.Value.the-variants.{ColorBackground, ColorForeground, ColorRectangle, Field, Flash, FlashEnd, Font, Graphic, HexadecimalCharacter, JustificationLine, JustificationPage, ManufacturerSpecific, ManufacturerSpecificEnd, MovingText, NewLine, NewPage, PageBackground, PageTime, SpacingCharacter, SpacingCharacterEnd, Text, TextRectangle}
 use Rattle.reading.specs.declared.Item.{Item as Said}
 use Rattle.reading.specs.declared.Item.the-variants.{Is, Fails}
 use Rattle.reading.specs.declared.Refusal.{Refusal}
-use Rattle.layout.specs.Types.{Item, opt, given, Rect, Entry, State, Board}
-use Rattle.layout.specs.Demand.{Role, text, hexadecimal, rectangle, newPage as pageRole, other, roleOf, roleIn, rectAfter, printedBy, TextIs}
-use Rattle.layout.specs.Read.{Step, refuse, go, emit, cut, turn, withJustLine, withJustPage, fontStep, rectOf, unit, fits, rectFits, justified, goIf, lineStep, valueStep, itemStep, step, Scan, scan, Event, pass, close, stop, stopIf, whole, newPage, start, follow, read}
+use Rattle.records.specs.declared.Config.{Config}
+use Rattle.layout.specs.declared.Rect.{Rect}
+use Rattle.layout.specs.declared.RenderState.{RenderState}
+use Rattle.layout.specs.declared.Entry.{Entry}
+use Rattle.layout.specs.Types.{Item, given}
+use Rattle.layout.specs.Demand.{Role, text, hexadecimal, rectangle, newPage as pageRole, other, roleOf, roleIn, rectAfter, printedBy}
+use Rattle.layout.specs.declared.Step.{Step}
+use Rattle.layout.specs.declared.Step.the-variants.{Refuse, Go, Emit, Cut, Turn}
+use Rattle.layout.specs.Read.{surrogate, above0, withJustLine, withJustPage, fontStep, rectOf, unit, fits, rectFits, justified, goIf, lineStep, valueStep, itemStep, step, Scan, scan, Event, pass, close, stop, stopIf, whole, newPage, start, follow, read}
 use Rattle.layout.proofs.PassLaws.{Grid, and-true}
 
 -- ---- one item
@@ -60,16 +67,16 @@ abbrev pub printedEntry : Entry → List (ℕ × ℕ)
 printedEntry e = printedBy (e .kind) (e .start) (e .len)
 
 -- what a step keeps: places within the item, the pass's rectangle, what is printed
-abbrev pub Fair : List ℕ → Board → State → Item → Step → Type 0
-Fair msg s st it (refuse r) = (r .start ≡ it .start) × (r .length ≡ it .len)
-Fair msg s st it (go st′ b) = (st′ .rect ≡ st .rect) × (rectAfter s (st .rect) (roleIn (it .says)) ≡ st .rect) × (printedItem it ≡ [])
-Fair msg s st it (emit e st′ b) =
-    (st′ .rect ≡ st .rect) × (rectAfter s (st .rect) (roleIn (it .says)) ≡ st .rect) × (printedItem it ≡ printedEntry e) × (e .start ≡ it .start) × TextIs msg e (e .kind) × (e .len ≤ it .len) × (okay (it .says) ≡ 1)
-Fair msg s st it (cut st′) = Grid s (st′ .rect) × (rectAfter s (st .rect) (roleIn (it .says)) ≡ st′ .rect) × (printedItem it ≡ [])
-Fair msg s st it turn = (rectAfter s (st .rect) (roleIn (it .says)) ≡ whole s) × (_≡_ {A = List (ℕ × ℕ)} (printedItem it) []) × (roleIn (it .says) ≡ pageRole)
+abbrev pub Fair : List ℕ → Config → RenderState → Item → Step → Type 0
+Fair msg s st it (Refuse r) = (r .start ≡ it .start) × (r .length ≡ it .len)
+Fair msg s st it (Go st′ b) = (st′ .rect ≡ st .rect) × (rectAfter s (st .rect) (roleIn (it .says)) ≡ st .rect) × (printedItem it ≡ [])
+Fair msg s st it (Emit e st′ b) =
+    (st′ .rect ≡ st .rect) × (rectAfter s (st .rect) (roleIn (it .says)) ≡ st .rect) × (printedItem it ≡ printedEntry e) × (e .start ≡ it .start) × (e .len ≤ it .len) × (okay (it .says) ≡ 1)
+Fair msg s st it (Cut st′) = Grid s (st′ .rect) × (rectAfter s (st .rect) (roleIn (it .says)) ≡ st′ .rect) × (printedItem it ≡ [])
+Fair msg s st it Turn = (rectAfter s (st .rect) (roleIn (it .says)) ≡ whole s) × (_≡_ {A = List (ℕ × ℕ)} (printedItem it) []) × (roleIn (it .says) ≡ pageRole)
 
 -- the same with the value apart
-abbrev FairVal : List ℕ → Board → State → Item → Value → Step → Type 0
+abbrev FairVal : List ℕ → Config → RenderState → Item → Value → Step → Type 0
 FairVal msg s st it v t = Fair msg s st (record { start = it .start; len = it .len; says = Is v }) t
 
 pick-all : (P : Step → Type 0) (b : Bool) {x y : Step} → (b ≡ true → P x) → (b ≡ false → P y) → P (pick b x y)
@@ -82,25 +89,25 @@ fits-grid a n all u q =
     let (_, o) = and-true (leb (a + n) all) (eqb (a % unit u) 0 && eqb (n % unit u) 0) p in
     eqb-true _ _ ((and-true (eqb (a % unit u) 0) (eqb (n % unit u) 0) o) .0)
 
-rect-grid : (s : Board) (r : Rect) → rectFits s r ≡ true → Grid s r
+rect-grid : (s : Config) (r : Rect) → rectFits s r ≡ true → Grid s r
 rect-grid s r q =
-    let (a, d) = and-true (fits (r .left) (r .width) (s .width) (s .charWidth)) (fits (r .top) (r .height) (s .height) (s .charHeight)) q in
-    record { across = fits-grid (r .left) (r .width) (s .width) (s .charWidth) a; down = fits-grid (r .top) (r .height) (s .height) (s .charHeight) d }
+    let (a, d) = and-true (fits (r .left) (r .width) (s .width) (s .«char_width»)) (fits (r .top) (r .height) (s .height) (s .«char_height»)) q in
+    record { across = fits-grid (r .left) (r .width) (s .width) (s .«char_width») a; down = fits-grid (r .top) (r .height) (s .height) (s .«char_height») d }
 
-module _ (msg : List ℕ) (s : Board) (st : State) (blank : Bool) (it : Item) where
-  goIf-fair : (v : Value) (f : ℕ → State) → roleOf v ≡ other → ((n : ℕ) → (f n) .rect ≡ st .rect) → (j : Option ℕ) → FairVal msg s st it v (goIf it j f blank)
-  goIf-fair v f e h none = (refl, refl)
-  goIf-fair v f e h (some n) = (h n, rw e, rw e)
+module _ (msg : List ℕ) (s : Config) (st : RenderState) (blank : Bool) (it : Item) where
+  goIf-fair : (v : Value) (f : ℕ → RenderState) → roleOf v ≡ other → ((n : ℕ) → (f n) .rect ≡ st .rect) → (j : OptNum) → FairVal msg s st it v (goIf it j f blank)
+  goIf-fair v f e h None = (refl, refl)
+  goIf-fair v f e h (Some n) = (h n, rw e, rw e)
 
-  line-fair : (l : OptNum) (b : Bool) → FairVal msg s st it (NewLine l) (lineStep it st (opt l) b)
-  line-fair l true = (refl, refl, refl, refl, refl, omega arith, refl)
+  line-fair : (l : OptNum) (b : Bool) → FairVal msg s st it (NewLine l) (lineStep it st l b)
+  line-fair l true = (refl, refl, refl, refl, omega arith, refl)
   line-fair l false = (refl, refl, refl)
 
   font-rect : (f : OptFont) → (fontStep s st f) .rect ≡ st .rect
   font-rect (SomeFont n v) = refl
   font-rect NoFont = refl
 
-  step-fair : (v : Value) → Within (it .start) (it .len) (roleOf v) → FairVal msg s st it v (valueStep msg s st blank it v)
+  step-fair : (v : Value) → Within (it .start) (it .len) (roleOf v) → FairVal msg s st it v (valueStep s st blank it v)
   step-fair (ColorBackground c) h = (refl, refl, refl)
   step-fair (ColorForeground c) h = (refl, refl, refl)
   step-fair (ColorRectangle r c) h = (refl, refl, refl)
@@ -110,34 +117,34 @@ module _ (msg : List ℕ) (s : Board) (st : State) (blank : Bool) (it : Item) wh
   step-fair (Font f) h = (font-rect f, refl, refl)
   step-fair (Graphic n p) h = (refl, refl, refl)
   step-fair (HexadecimalCharacter c) h =
-      pick-all (FairVal msg s st it (HexadecimalCharacter c)) (leb 55296 c && leb c 57343) (λ _. (refl, refl))
-      (λ _. pick-all (FairVal msg s st it (HexadecimalCharacter c)) (ltb (st .span) 255) (λ _. (refl, refl, refl, refl, refl, le-refl _, refl)) (λ _. (refl, refl)))
-  step-fair (JustificationLine j) h = goIf-fair (JustificationLine j) (withJustLine st) refl (λ n. refl) (justified (opt j) (s .justLine))
-  step-fair (JustificationPage j) h = goIf-fair (JustificationPage j) (withJustPage st) refl (λ n. refl) (justified (opt j) (s .justPage))
+      pick-all (FairVal msg s st it (HexadecimalCharacter c)) (surrogate c) (λ _. (refl, refl))
+      (λ _. pick-all (FairVal msg s st it (HexadecimalCharacter c)) (ltb (st .span) 255) (λ _. (refl, refl, refl, refl, le-refl _, refl)) (λ _. (refl, refl)))
+  step-fair (JustificationLine j) h = goIf-fair (JustificationLine j) (withJustLine st) refl (λ n. refl) (justified j (s .«line_just»))
+  step-fair (JustificationPage j) h = goIf-fair (JustificationPage j) (withJustPage st) refl (λ n. refl) (justified j (s .«page_just»))
   step-fair (ManufacturerSpecific m p) h = (refl, refl, refl)
   step-fair (ManufacturerSpecificEnd m p) h = (refl, refl, refl)
   step-fair (MovingText m d t) h = (refl, refl, refl)
   step-fair (NewLine l) h =
-      pick-all (FairVal msg s st it (NewLine l)) (ltb 0 (s .charHeight) && ltb 0 (given (opt l) 0)) (λ _. (refl, refl))
+      pick-all (FairVal msg s st it (NewLine l)) (above0 (s .«char_height») (given l 0)) (λ _. (refl, refl))
       (λ _. pick-all (FairVal msg s st it (NewLine l)) (ltb (st .line) 255) (λ _. line-fair l blank) (λ _. (refl, refl)))
   step-fair NewPage h = (refl, refl, refl)
   step-fair (PageBackground c) h = (refl, refl, refl)
   step-fair (PageTime a b) h = (refl, refl, refl)
-  step-fair (SpacingCharacter c) h = pick-all (FairVal msg s st it (SpacingCharacter c)) (ltb 0 (s .charWidth) && ltb 0 c) (λ _. (refl, refl)) (λ _. (refl, refl, refl))
+  step-fair (SpacingCharacter c) h = pick-all (FairVal msg s st it (SpacingCharacter c)) (above0 (s .«char_width») c) (λ _. (refl, refl)) (λ _. (refl, refl, refl))
   step-fair SpacingCharacterEnd h = (refl, refl, refl)
-  step-fair (Text p) h = pick-all (FairVal msg s st it (Text p)) (ltb (st .span) 255) (λ _. (refl, refl, refl, h .0, refl, h .1, refl)) (λ _. (refl, refl))
+  step-fair (Text p) h = pick-all (FairVal msg s st it (Text p)) (ltb (st .span) 255) (λ _. (refl, refl, refl, h .0, h .1, refl)) (λ _. (refl, refl))
   step-fair (TextRectangle r) h =
       pick-all (FairVal msg s st it (TextRectangle r)) (rectFits s (rectOf s r)) (λ q. (rect-grid s (rectOf s r) q, refl, refl)) (λ _. (refl, refl))
 
-  said-fair : (x : Said) → Within (it .start) (it .len) (roleIn x) → Fair msg s st (record { start = it .start; len = it .len; says = x }) (itemStep msg s st blank it x)
+  said-fair : (x : Said) → Within (it .start) (it .len) (roleIn x) → Fair msg s st (record { start = it .start; len = it .len; says = x }) (itemStep s st blank it x)
   said-fair (Is v) h = step-fair v h
   said-fair (Fails n) h = (refl, refl)
 
-  pub step-is-fair : Within (it .start) (it .len) (roleIn (it .says)) → Fair msg s st it (step msg s st blank it)
+  pub step-is-fair : Within (it .start) (it .len) (roleIn (it .says)) → Fair msg s st it (step s st blank it)
   unfolding step
   step-is-fair h = said-fair (it .says) h
 
-pub whole-grid : (s : Board) → Grid s (whole s)
+pub whole-grid : (s : Config) → Grid s (whole s)
 whole-grid s = record { across = zero-mod _; down = zero-mod _ }
 
 -- ---- a message
@@ -183,8 +190,8 @@ pub record Covers (its : List Item) (acc : List Entry) (l : List Entry) : Type 0
   pub prints : printedEntries news ≡ printedItems its
   pub order : Part (starts news) (itemStarts its)
 
-module _ (msg : List ℕ) (s : Board) (it : Item) (its : List Item) (k : ℕ → ℕ → State → Bool → List Entry → List Event)
-    (hyp : (a b : ℕ) (st : State) (bl : Bool) (acc : List Entry) → Runs (k a b st bl acc) → Covers its acc (entries (k a b st bl acc))) where
+module _ (msg : List ℕ) (s : Config) (it : Item) (its : List Item) (k : ℕ → ℕ → RenderState → Bool → List Entry → List Event)
+    (hyp : (a b : ℕ) (st : RenderState) (bl : Bool) (acc : List Entry) → Runs (k a b st bl acc) → Covers its acc (entries (k a b st bl acc))) where
   fresh : (acc : List Entry) (l : List Entry) → printedItem it ≡ [] → Covers its [] l → Covers (it ∷ its) acc (acc ++ l)
   fresh acc l p c = record { news = c .news; all = ap (λ (r : List Entry). acc ++ r) (c .all); prints = rw p (c .prints); order = skip (c .order) }
 
@@ -193,13 +200,13 @@ module _ (msg : List ℕ) (s : Board) (it : Item) (its : List Item) (k : ℕ →
   after-stop acc none l p c n = fresh acc (entries l) p (c n)
   after-stop acc (some r) l p c n = absurd n
 
-  follow-covers : (a b : ℕ) (st : State) (acc : List Entry) (t : Step) → Fair msg s st it t → Runs (follow s a b st acc its k t)
+  follow-covers : (a b : ℕ) (st : RenderState) (acc : List Entry) (t : Step) → Fair msg s st it t → Runs (follow s a b st acc its k t)
       → Covers (it ∷ its) acc (entries (follow s a b st acc its k t))
-  follow-covers a b st acc (refuse r) f n = absurd n
-  follow-covers a b st acc (go st′ bl) f n =
+  follow-covers a b st acc (Refuse r) f n = absurd n
+  follow-covers a b st acc (Go st′ bl) f n =
       let c : Covers its acc (entries (k a b st′ bl acc)) = hyp a b st′ bl acc n in
       record { news = c .news; all = c .all; prints = rw (f .2) (c .prints); order = skip (c .order) }
-  follow-covers a b st acc (emit e st′ bl) f n =
+  follow-covers a b st acc (Emit e st′ bl) f n =
       let c : Covers its (acc ++ (e ∷ [])) (entries (k a b st′ bl (acc ++ (e ∷ [])))) = hyp a b st′ bl (acc ++ (e ∷ [])) n in
       record {
         news = e ∷ c .news;
@@ -207,37 +214,37 @@ module _ (msg : List ℕ) (s : Board) (it : Item) (its : List Item) (k : ℕ →
         prints = rw (f .2, c .prints);
         order = both (f .3) (c .order);
       }
-  follow-covers a b st acc (cut st′) f n = fresh acc _ (f .2) (hyp a b st′ true [] n)
-  follow-covers a b st acc turn f n =
+  follow-covers a b st acc (Cut st′) f n = fresh acc _ (f .2) (hyp a b st′ true [] n)
+  follow-covers a b st acc Turn f n =
       let c : Scan = scan s a b its in
       after-stop acc (c .fault) (k (c .on) (c .off) (newPage s st) true []) (f .1) (hyp (c .on) (c .off) (newPage s st) true []) n
 
-pub read-covers : (msg : List ℕ) (s : Board) (its : List Item) (a b : ℕ) (st : State) (bl : Bool) (acc : List Entry) → Honest its → Runs (read msg s its a b st bl acc)
-    → Covers its acc (entries (read msg s its a b st bl acc))
+pub read-covers : (msg : List ℕ) (s : Config) (its : List Item) (a b : ℕ) (st : RenderState) (bl : Bool) (acc : List Entry) → Honest its → Runs (read s its a b st bl acc)
+    → Covers its acc (entries (read s its a b st bl acc))
 read-covers msg s [] a b st bl acc h n = record { news = []; all = refl; prints = refl; order = none-of }
 read-covers msg s (it ∷ its) a b st bl acc h n =
-    follow-covers msg s it its (read msg s its) (λ a b st bl acc n. read-covers msg s its a b st bl acc (h .1) n) a b st acc (step msg s st bl it) (step-is-fair msg s st bl it (h .0)) n
+    follow-covers msg s it its (read s its) (λ a b st bl acc n. read-covers msg s its a b st bl acc (h .1) n) a b st acc (step s st bl it) (step-is-fair msg s st bl it (h .0)) n
 
 -- ---- the rectangles
 
-module _ (msg : List ℕ) (s : Board) (its : List Item) (k : ℕ → ℕ → State → Bool → List Entry → List Event)
-    (hyp : (a b : ℕ) (st : State) (bl : Bool) (acc : List Entry) → Grid s (st .rect) → EachPass (λ r es. Grid s r) (k a b st bl acc)) where
+module _ (msg : List ℕ) (s : Config) (its : List Item) (k : ℕ → ℕ → RenderState → Bool → List Entry → List Event)
+    (hyp : (a b : ℕ) (st : RenderState) (bl : Bool) (acc : List Entry) → Grid s (st .rect) → EachPass (λ r es. Grid s r) (k a b st bl acc)) where
   each-stop : (f : Option Refusal) (l : List Event) → EachPass (λ r es. Grid s r) l → EachPass (λ r es. Grid s r) (stopIf f l)
   each-stop none l h = h
   each-stop (some r) l h = tt
 
-  follow-grid : (it : Item) (a b : ℕ) (st : State) (acc : List Entry) (t : Step) → Fair msg s st it t → Grid s (st .rect)
+  follow-grid : (it : Item) (a b : ℕ) (st : RenderState) (acc : List Entry) (t : Step) → Fair msg s st it t → Grid s (st .rect)
       → EachPass (λ r es. Grid s r) (follow s a b st acc its k t)
-  follow-grid it a b st acc (refuse r) f g = tt
-  follow-grid it a b st acc (go st′ bl) f g = hyp a b st′ bl acc (rw (f .0) g)
-  follow-grid it a b st acc (emit e st′ bl) f g = hyp a b st′ bl (acc ++ (e ∷ [])) (rw (f .0) g)
-  follow-grid it a b st acc (cut st′) f g = (g, hyp a b st′ true [] (f .0))
-  follow-grid it a b st acc turn f g =
+  follow-grid it a b st acc (Refuse r) f g = tt
+  follow-grid it a b st acc (Go st′ bl) f g = hyp a b st′ bl acc (rw (f .0) g)
+  follow-grid it a b st acc (Emit e st′ bl) f g = hyp a b st′ bl (acc ++ (e ∷ [])) (rw (f .0) g)
+  follow-grid it a b st acc (Cut st′) f g = (g, hyp a b st′ true [] (f .0))
+  follow-grid it a b st acc Turn f g =
       let c : Scan = scan s a b its in
       (g, each-stop (c .fault) _ (hyp (c .on) (c .off) (newPage s st) true [] (whole-grid s)))
 
-pub read-grid : (msg : List ℕ) (s : Board) (its : List Item) (a b : ℕ) (st : State) (bl : Bool) (acc : List Entry) → Honest its → Grid s (st .rect)
-    → EachPass (λ r es. Grid s r) (read msg s its a b st bl acc)
+pub read-grid : (msg : List ℕ) (s : Config) (its : List Item) (a b : ℕ) (st : RenderState) (bl : Bool) (acc : List Entry) → Honest its → Grid s (st .rect)
+    → EachPass (λ r es. Grid s r) (read s its a b st bl acc)
 read-grid msg s [] a b st bl acc h g = (g, tt)
 read-grid msg s (it ∷ its) a b st bl acc h g =
-    follow-grid msg s its (read msg s its) (λ a b st bl acc g. read-grid msg s its a b st bl acc (h .1) g) it a b st acc (step msg s st bl it) (step-is-fair msg s st bl it (h .0)) g
+    follow-grid msg s its (read s its) (λ a b st bl acc g. read-grid msg s its a b st bl acc (h .1) g) it a b st acc (step s st bl it) (step-is-fair msg s st bl it (h .0)) g

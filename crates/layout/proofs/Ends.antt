@@ -2,29 +2,35 @@
 use Prim.Native.Nat.{ℕ, zero, suc, _+_, _*_, _≤_, _<_}
 use native.Mathlib.Omega.{arith}
 use native.Mathlib.Nat.{add-zero, zero-add}
-use mathlib.Core.Path.{_≡_, refl, sym, ap, subst}
+use mathlib.Core.Path.{_≡_, refl, sym, ap, _∙_, subst}
 use mathlib.Core.Bool.{Bool, true, false}
 use mathlib.Core.Option.{Option, none, some}
 use mathlib.Core.List.{List, [], _∷_, _++_}
 use lib.Dec.{ltb}
-use borrow.Author.Tests.{ltb-true, ltb-false}
+use borrow.Author.Tests.{ltb-true, ltb-false, le-ltb}
 use lib.ListN.{length}
-use Rattle.base.specs.Pick.{pick}
-use Rattle.utf8.specs.Utf8.{wellFormed}
 use Rattle.sign.specs.Sign.{Sign, Accepted, RefusedAt, signFile}
 use Rattle.reading.specs.declared.Refusal.{Refusal}
 use Rattle.layout.specs.declared.Span.{Span}
 use Rattle.layout.specs.declared.Answer.{Answer}
 use Rattle.layout.specs.declared.Answer.the-variants.{On, Off, End, Refused}
-use Rattle.layout.specs.Types.{Item, items, Entry, State, Board}
+use Rattle.base.specs.Pick.{pick}
+use Rattle.utf8.specs.Utf8.{wellFormed}
+use Rattle.layout.specs.declared.RenderState.{RenderState}
+use Rattle.layout.specs.declared.Entry.{Entry}
+use Rattle.records.specs.declared.Config.{Config}
+use Rattle.layout.specs.Types.{Item, items, Board}
 use Rattle.layout.specs.Fonts.{boardOf}
 use Rattle.layout.specs.Place.{passRecords}
-use Rattle.layout.specs.Read.{Step, refuse, go, emit, cut, turn, step, Scan, scan, Event, pass, close, stop, stopIf, newPage, start, follow, read, opening, events}
-use Rattle.layout.specs.Listing.{Page, on, off, refused, stopAt, offs, passStop, walk, pages, Result, numbered, refusing, listing}
-use Rattle.layout.specs.Demand.{roleIn, breaks, pageBreaks, Shows, Stops, StopsBy}
+use Rattle.layout.specs.declared.Step.{Step}
+use Rattle.layout.specs.declared.Step.the-variants.{Refuse, Go, Emit, Cut, Turn}
+use Rattle.layout.specs.Read.{step, Scan, scan, Event, pass, close, stop, stopIf, newPage, start, follow, read, opening, events}
+use Rattle.layout.specs.Listing.{Page, on, off, refused, stopAt, offs, passStop, walk, pages, numbered, listing, Result, refusing, resultOn}
+use Rattle.layout.specs.Demand.{roleIn, Shows}
+use Rattle.layout.specs.Bounds.{breaks, pageBreaks, Stops, StopsBy}
 use Rattle.layout.proofs.Cover.{Fair, step-is-fair, Honest}
 use Rattle.layout.proofs.Items.{items-honest}
-use Rattle.layout.proofs.Calls.{answer-on}
+use Rattle.layout.proofs.Checks.{accepted-result, answer-on}
 
 -- ---- the pages of a message: two for each end of a page at most
 
@@ -52,31 +58,31 @@ closes-stop : (f : Option Refusal) (l : List Event) → closes (stopIf f l) ≤ 
 closes-stop none l = omega arith
 closes-stop (some r) l = omega arith
 
-module _ (msg : List ℕ) (s : Board) (it : Item) (its : List Item) (k : ℕ → ℕ → State → Bool → List Entry → List Event)
-    (hyp : (a b : ℕ) (st : State) (bl : Bool) (acc : List Entry) → closes (k a b st bl acc) ≤ pageBreaks its) where
-  follow-closes : (a b : ℕ) (st : State) (acc : List Entry) (t : Step) → Fair msg s st it t → closes (follow s a b st acc its k t) ≤ pageBreaks (it ∷ its)
-  follow-closes a b st acc (refuse r) f = omega arith
-  follow-closes a b st acc (go st′ bl) f = omega (arith, hyp a b st′ bl acc)
-  follow-closes a b st acc (emit e st′ bl) f = omega (arith, hyp a b st′ bl (acc ++ (e ∷ [])))
-  follow-closes a b st acc (cut st′) f = omega (arith, hyp a b st′ true [])
-  follow-closes a b st acc turn f =
+module _ (msg : List ℕ) (s : Config) (it : Item) (its : List Item) (k : ℕ → ℕ → RenderState → Bool → List Entry → List Event)
+    (hyp : (a b : ℕ) (st : RenderState) (bl : Bool) (acc : List Entry) → closes (k a b st bl acc) ≤ pageBreaks its) where
+  follow-closes : (a b : ℕ) (st : RenderState) (acc : List Entry) (t : Step) → Fair msg s st it t → closes (follow s a b st acc its k t) ≤ pageBreaks (it ∷ its)
+  follow-closes a b st acc (Refuse r) f = omega arith
+  follow-closes a b st acc (Go st′ bl) f = omega (arith, hyp a b st′ bl acc)
+  follow-closes a b st acc (Emit e st′ bl) f = omega (arith, hyp a b st′ bl (acc ++ (e ∷ [])))
+  follow-closes a b st acc (Cut st′) f = omega (arith, hyp a b st′ true [])
+  follow-closes a b st acc Turn f =
       let c : Scan = scan s a b its in
       let e : breaks (roleIn (it .says)) ≡ 1 = ap breaks (f .2) in
       omega (arith, closes-stop (c .fault) (k (c .on) (c .off) (newPage s st) true []), hyp (c .on) (c .off) (newPage s st) true [])
 
-read-closes : (msg : List ℕ) (s : Board) (its : List Item) (a b : ℕ) (st : State) (bl : Bool) (acc : List Entry) → Honest its
-    → closes (read msg s its a b st bl acc) ≤ pageBreaks its
+read-closes : (msg : List ℕ) (s : Config) (its : List Item) (a b : ℕ) (st : RenderState) (bl : Bool) (acc : List Entry) → Honest its
+    → closes (read s its a b st bl acc) ≤ pageBreaks its
 read-closes msg s [] a b st bl acc h = omega arith
 read-closes msg s (it ∷ its) a b st bl acc h =
-    follow-closes msg s it its (read msg s its) (λ a b st bl acc. read-closes msg s its a b st bl acc (h .1)) a b st acc (step msg s st bl it)
+    follow-closes msg s it its (read s its) (λ a b st bl acc. read-closes msg s its a b st bl acc (h .1)) a b st acc (step s st bl it)
     (step-is-fair msg s st bl it (h .0))
 
-pages-le : (msg : List ℕ) (s : Board) → length (pages msg s (items msg)) ≤ 2 * suc (pageBreaks (items msg))
+pages-le : (msg : List ℕ) (s : Board) → length (pages s (items msg)) ≤ 2 * suc (pageBreaks (items msg))
 unfolding pages events
 pages-le msg s =
-    let o : Scan = opening s (items msg) in
-    let l : List Event = read msg s (items msg) (o .on) (o .off) (start s) true [] in
-    omega (arith, walk-le s (stopIf (o .fault) l) (o .on) (o .off) [] 0, closes-stop (o .fault) l, read-closes msg s (items msg) (o .on) (o .off) (start s) true [] (items-honest msg))
+    let o : Scan = opening (s .config) (items msg) in
+    let l : List Event = read (s .config) (items msg) (o .on) (o .off) (start (s .config)) true [] in
+    omega (arith, walk-le s (stopIf (o .fault) l) (o .on) (o .off) [] 0, closes-stop (o .fault) l, read-closes msg (s .config) (items msg) (o .on) (o .off) (start (s .config)) true [] (items-honest msg))
 
 -- ---- the first answer that stops
 
@@ -122,20 +128,52 @@ numbered-stops c (on d rs ∷ l) = numbered-stops (suc c) l
 numbered-stops c (off d ∷ l) = numbered-stops (suc c) l
 numbered-stops c (refused x ∷ l) = tt
 
-checks-stop : (t u v : Bool) (l : Result) → Stops (l .answer) → Stops ((pick t (refusing 2 0) (pick u (pick v (refusing 4 0) l) (refusing 3 0))) .answer)
-checks-stop true u v l h = tt
-checks-stop false false v l h = tt
-checks-stop false true true l h = tt
-checks-stop false true false l h = h
-
 pub always-stops : (file msg : List ℕ) (lent : ℕ → List Span) → StopsBy file msg lent (2 * suc (pageBreaks (items msg)))
 always-stops file msg lent = look (signFile file) refl
   where
     look : (s : Sign) → signFile file ≡ s → StopsBy file msg lent (2 * suc (pageBreaks (items msg)))
-    look (RefusedAt start) e = stop-at file msg lent 0 _ (omega arith) (rw (answer-on file msg lent (RefusedAt start) e 0) tt)
+    look (RefusedAt start) e = stop-at file msg lent 0 _ (omega arith) (rw (answer-on file msg 0 (lent 0) (RefusedAt start) e) tt)
     look (Accepted c fs) e =
-        let ps : List Page = pages msg (boardOf c fs) (items msg) in
-        let n : ℕ = length ps in
-        stop-at file msg lent n _ (pages-le msg (boardOf c fs))
-        (rw (answer-on file msg lent (Accepted c fs) e n)
-        (checks-stop (ltb 2048 (length msg)) (wellFormed msg) (ltb (length (lent n)) 1400) (numbered 0 ps n) (numbered-stops 0 ps)))
+        let n : ℕ = length (pages (boardOf msg c fs) (items msg)) in
+        stop-at file msg lent n _ (pages-le msg (boardOf msg c fs))
+        (rw (answer-on file msg n (lent n) (Accepted c fs) e)
+        (accepted-result msg n (length (lent n)) (λ r. Stops (r .answer)) c fs (λ k. tt) (λ p q. numbered-stops 0 (pages (boardOf msg c fs) (items msg)))))
+
+-- ---- "From a refused answer on, every later answer is that refusal"
+
+numbered-stays : (x : Refusal) (c : ℕ) (l : List Page) (n m : ℕ) → n ≤ m → (numbered c l n) .answer ≡ Refused x → (numbered c l m) .answer ≡ Refused x
+numbered-stays x c [] n m h e = absurd (let z : _≡_ {A = ℕ} 0 1 = cc in omega arith)
+numbered-stays x c (p ∷ l) zero zero h e = e
+numbered-stays x c (on d rs ∷ l) zero (suc m) h e = absurd (let z : _≡_ {A = ℕ} 0 1 = cc in omega arith)
+numbered-stays x c (off d ∷ l) zero (suc m) h e = absurd (let z : _≡_ {A = ℕ} 0 1 = cc in omega arith)
+numbered-stays x c (refused r ∷ l) zero (suc m) h e = e
+numbered-stays x c (p ∷ l) (suc n) zero h e = absurd (omega arith)
+numbered-stays x c (on d rs ∷ l) (suc n) (suc m) h e = numbered-stays x (suc c) l n m (omega arith) e
+numbered-stays x c (off d ∷ l) (suc n) (suc m) h e = numbered-stays x (suc c) l n m (omega arith) e
+numbered-stays x c (refused r ∷ l) (suc n) (suc m) h e = e
+
+-- with room enough, the result does not depend on it
+room-is : (s : Sign) (msg : List ℕ) (n room : ℕ) → 1400 ≤ room → resultOn s msg n room ≡ resultOn s msg n 1400
+room-is (RefusedAt start) msg n room h = refl
+room-is (Accepted c fs) msg n room h = rw (le-ltb room 1400 h)
+
+result-stays : (s : Sign) (msg : List ℕ) (x : Refusal) (n m : ℕ) → n ≤ m → (resultOn s msg n 1400) .answer ≡ Refused x → (resultOn s msg m 1400) .answer ≡ Refused x
+result-stays (RefusedAt start) msg x n m h e = e
+result-stays (Accepted c fs) msg x n m h e = look (ltb 2048 (length msg)) (wellFormed msg) e
+  where
+    at : ℕ → Result
+    at k = numbered 0 (pages (boardOf msg c fs) (items msg)) k
+
+    look : (t u : Bool) → (pick t (refusing 2 0) (pick u (at n) (refusing 3 0))) .answer ≡ Refused x
+        → (pick t (refusing 2 0) (pick u (at m) (refusing 3 0))) .answer ≡ Refused x
+    look true u q = q
+    look false false q = q
+    look false true q = numbered-stays x 0 (pages (boardOf msg c fs) (items msg)) n m h q
+
+pub stays : (file msg : List ℕ) (n m : ℕ) (a b : List Span) (x : Refusal) → n ≤ m → 1400 ≤ length a → 1400 ≤ length b → listing file msg n a ≡ Refused x
+    → listing file msg m b ≡ Refused x
+stays file msg n m a b x h p q e =
+    let s : Sign = signFile file in
+    let now : (resultOn s msg n 1400) .answer ≡ Refused x =
+    ap (λ (r : Result). r .answer) (sym (room-is s msg n (length a) p)) ∙ sym (answer-on file msg n a s refl) ∙ e in
+    answer-on file msg m b s refl ∙ ap (λ (r : Result). r .answer) (room-is s msg m (length b) q) ∙ result-stays s msg x n m h now

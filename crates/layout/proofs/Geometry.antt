@@ -9,7 +9,9 @@ use mathlib.Core.List.{List, [], _∷_}
 use lib.Dec.{leb, ltb, eqb}
 use borrow.Author.Tests.{lt-ltb, le-ltb, le-leb, lt-leb, eqb-true}
 use Rattle.base.specs.Pick.{pick}
-use Rattle.layout.specs.Types.{Rect, Entry, Meter}
+use Rattle.layout.specs.declared.Rect.{Rect}
+use Rattle.layout.specs.declared.Entry.{Entry}
+use Rattle.layout.specs.Types.{Meter}
 use Rattle.layout.specs.Read.{unit}
 use Rattle.layout.specs.Demand.{In, here, there, Next, first, later, From, Rises, spans}
 use Rattle.layout.specs.Place.{trunc, due, gap, before, after, placeX, Line, addLine, lineOf, lines, above, baseline}
@@ -41,10 +43,10 @@ halves false x = omega arith
 pub before-after : (m : Meter) (n : ℕ) (p : Option Entry) (es : List Entry) → before m n p es + after m n p es ≡ widths m p es
 before-after m n p [] = refl
 before-after m n p (e ∷ es) =
-    omega (arith, halves (leb (e .span) n) (gap m p e), halves (ltb (e .span) n) (m .width e), before-after m n (some e) es)
+    omega (arith, halves (leb (e .state .span) n) (gap m p e), halves (ltb (e .state .span) n) (m .width e), before-after m n (some e) es)
 
-pub width-after : (m : Meter) (p : Option Entry) {e : Entry} {es : List Entry} → In e es → m .width e ≤ after m (e .span) p es
-width-after m p (here {a = e}) = rw (le-ltb (e .span) (e .span) (le-refl _)) (omega arith)
+pub width-after : (m : Meter) (p : Option Entry) {e : Entry} {es : List Entry} → In e es → m .width e ≤ after m (e .state .span) p es
+width-after m p (here {a = e}) = rw (le-ltb (e .state .span) (e .state .span) (le-refl _)) (omega arith)
 width-after m p (there {b = c} i) = omega (arith, width-after m (some c) i)
 
 pub inside-x : (j cw : ℕ) (r : Rect) (b a w : ℕ) → r .left % unit cw ≡ 0 → w ≤ a → b + a ≤ r .width
@@ -87,12 +89,12 @@ tall-new (suc n) l (a ∷ ls) = omega (arith, tall-new n l ls)
 
 tall-lines : (m : Meter) (n : ℕ) (ls : List Line) (es : List Entry) → tall n ls ≤ tall n (lines m ls es)
 tall-lines m n ls [] = le-refl _
-tall-lines m n ls (e ∷ es) = omega (arith, tall-add (e .line) n (lineOf m e) ls, tall-lines m n (addLine (e .line) (lineOf m e) ls) es)
+tall-lines m n ls (e ∷ es) = omega (arith, tall-add (e .state .line) n (lineOf m e) ls, tall-lines m n (addLine (e .state .line) (lineOf m e) ls) es)
 
-pub tall-in : (m : Meter) (ls : List Line) {e : Entry} {es : List Entry} → In e es → m .height e ≤ tall (e .line) (lines m ls es)
+pub tall-in : (m : Meter) (ls : List Line) {e : Entry} {es : List Entry} → In e es → m .height e ≤ tall (e .state .line) (lines m ls es)
 tall-in m ls (here {a = e} {l = es}) =
-    omega (arith, tall-new (e .line) (lineOf m e) ls, tall-lines m (e .line) (addLine (e .line) (lineOf m e) ls) es)
-tall-in m ls (there {b = c} i) = tall-in m (addLine (c .line) (lineOf m c) ls) i
+    omega (arith, tall-new (e .state .line) (lineOf m e) ls, tall-lines m (e .state .line) (addLine (e .state .line) (lineOf m e) ls) es)
+tall-in m ls (there {b = c} i) = tall-in m (addLine (c .state .line) (lineOf m c) ls) i
 
 grid-add : (u a b : ℕ) → a % u ≡ 0 → b % u ≡ 0 → (a + b) % u ≡ 0
 grid-add u a b p q = add-mod a b u ∙ rw (p, q) (zero-mod u)
@@ -125,26 +127,26 @@ pub from-rises : (n : ℕ) (ks : List ℕ) → From n ks → Rises ks
 from-rises n [] f = tt
 from-rises n (k ∷ ks) f = f .1
 
-from-in : (n : ℕ) {e : Entry} {es : List Entry} → In e es → From n (spans es) → n < e .span
+from-in : (n : ℕ) {e : Entry} {es : List Entry} → In e es → From n (spans es) → n < e .state .span
 from-in n here f = f .0
-from-in n (there {b = c} i) f = omega (arith, from-in (c .span) i (f .1))
+from-in n (there {b = c} i) f = omega (arith, from-in (c .state .span) i (f .1))
 
 before-none : (m : Meter) (k n : ℕ) (p : Option Entry) (es : List Entry) → k ≤ n → From n (spans es) → before m k p es ≡ 0
 before-none m k n p [] h f = refl
 before-none m k n p (e ∷ es) h f =
-    rw (lt-leb (e .span) k (omega arith), le-ltb (e .span) k (omega arith)) (omega (arith, before-none m k (e .span) (some e) es (omega arith) (f .1)))
+    rw (lt-leb (e .state .span) k (omega arith), le-ltb (e .state .span) k (omega arith)) (omega (arith, before-none m k (e .state .span) (some e) es (omega arith) (f .1)))
 
 pub before-next : (m : Meter) (p : Option Entry) {a b : Entry} {es : List Entry} → Next a b es → Rises (spans es)
-    → before m (b .span) p es ≡ before m (a .span) p es + (m .width a + due m a b)
+    → before m (b .state .span) p es ≡ before m (a .state .span) p es + (m .width a + due m a b)
 before-next m p (first {a = a} {b = b} {l = l}) f =
-    rw (le-leb (a .span) (b .span) (omega arith), lt-ltb (a .span) (b .span) (f .0), le-leb (b .span) (b .span) (le-refl _), le-ltb (b .span) (b .span) (le-refl _))
-    (rw (le-leb (a .span) (a .span) (le-refl _), le-ltb (a .span) (a .span) (le-refl _), lt-leb (b .span) (a .span) (f .0), le-ltb (b .span) (a .span) (omega arith))
-    (omega (arith, before-none m (b .span) (b .span) (some b) l (le-refl _) (f .1), before-none m (a .span) (b .span) (some b) l (omega arith) (f .1))))
+    rw (le-leb (a .state .span) (b .state .span) (omega arith), lt-ltb (a .state .span) (b .state .span) (f .0), le-leb (b .state .span) (b .state .span) (le-refl _), le-ltb (b .state .span) (b .state .span) (le-refl _))
+    (rw (le-leb (a .state .span) (a .state .span) (le-refl _), le-ltb (a .state .span) (a .state .span) (le-refl _), lt-leb (b .state .span) (a .state .span) (f .0), le-ltb (b .state .span) (a .state .span) (omega arith))
+    (omega (arith, before-none m (b .state .span) (b .state .span) (some b) l (le-refl _) (f .1), before-none m (a .state .span) (b .state .span) (some b) l (omega arith) (f .1))))
 before-next m p (later {a = a} {b = b} {c = c} {l = l} i) f =
-    let ha : c .span < a .span = from-in (c .span) (next-left i) f in
-    let hb : c .span < b .span = from-in (c .span) (next-right i) f in
-    rw (le-leb (c .span) (a .span) (omega arith), lt-ltb (c .span) (a .span) ha, le-leb (c .span) (b .span) (omega arith), lt-ltb (c .span) (b .span) hb)
-    (omega (arith, before-next m (some c) i (from-rises (c .span) (spans l) f)))
+    let ha : c .state .span < a .state .span = from-in (c .state .span) (next-left i) f in
+    let hb : c .state .span < b .state .span = from-in (c .state .span) (next-right i) f in
+    rw (le-leb (c .state .span) (a .state .span) (omega arith), lt-ltb (c .state .span) (a .state .span) ha, le-leb (c .state .span) (b .state .span) (omega arith), lt-ltb (c .state .span) (b .state .span) hb)
+    (omega (arith, before-next m (some c) i (from-rises (c .state .span) (spans l) f)))
 
 next-place : (t u : Bool) (cw : ℕ) (r : Rect) (b₁ a₁ b₂ a₂ w d : ℕ) → (u ≡ true → cw ≤ 1) → b₂ ≡ b₁ + (w + d) → b₁ + a₁ ≡ b₂ + a₂ → b₁ + a₁ ≤ r .width
     → pick t (r .left + b₂) (pick u (trunc cw (r .left + (r .width - b₂ - a₂) / 2 + b₂)) (r .left + r .width - a₂))

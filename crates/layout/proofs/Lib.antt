@@ -1,9 +1,11 @@
+pub mod States
 pub mod Geometry
 pub mod PassLaws
 pub mod Cover
 pub mod RectLaws
 pub mod Tags
 pub mod Items
+pub mod Checks
 pub mod Pages
 pub mod Calls
 pub mod Ends

@@ -3,7 +3,7 @@ use Prim.Native.Nat.{ℕ, zero, suc, _+_, _%_, _≤_}
 use native.Mathlib.Nat.{zero-mod}
 use native.Mathlib.Omega.{arith}
 use mathlib.Core.Path.{_≡_, refl, sym, ap, _∙_}
-use mathlib.Core.Logic.{inl, inr}
+use mathlib.Core.Logic.{_⊎_, inl, inr}
 use mathlib.Core.Bool.{Bool, true, false}
 use mathlib.Core.Option.{Option, none, some}
 use mathlib.Core.List.{List, [], _∷_, _++_, map, append-assoc}
@@ -14,12 +14,15 @@ use Rattle.records.specs.declared.Config.{Config}
 use Rattle.sign.specs.Sign.{Font}
 use Rattle.reading.specs.declared.Refusal.{Refusal}
 use Rattle.layout.specs.declared.Span.{Span}
-use Rattle.layout.specs.Types.{Item, items, Rect, Entry, Board}
-use Rattle.layout.specs.Fonts.{fontNumbered, versionFault, charFault, charFaultAfter, faultIn, widthIn, heightIn, meterOf, boardOf}
+use Rattle.layout.specs.declared.Rect.{Rect}
+use Rattle.layout.specs.declared.Entry.{Entry}
+use Rattle.layout.specs.Types.{Item, items, Board}
+use Rattle.measure.specs.Widths.{charFault}
+use Rattle.layout.specs.Fonts.{charsOf, fontNumbered, versionFault, charFaultAfter, faultIn, widthIn, heightIn, meterOf, boardOf}
 use Rattle.layout.specs.Place.{keep, select, same, firstFault, faultAt, spanFault, passFault, passRecords, recordOf}
 use Rattle.layout.specs.Read.{Scan, Event, pass, close, stop, stopIf, whole, start, read, opening, events}
 use Rattle.layout.specs.Listing.{Page, on, off, refused, stopAt, offs, passStop, walk, pages}
-use Rattle.layout.specs.Demand.{rectAt, In, here, there, From, Rises, printedRecords, printed, placed, Tells, TextIs, Measured, Divides, Stands}
+use Rattle.layout.specs.Demand.{rectAt, rectAtPlace, Across, Down, In, here, there, From, Rises, printedRecords, printed, placed, Tells, Measured, Divides, Stands}
 use Rattle.layout.proofs.Geometry.{next-left, from-rises}
 use Rattle.layout.proofs.PassLaws.{Grid, Even, or-none, in-select, same-refl, across, down, spacing}
 use Rattle.layout.proofs.RectLaws.{read-known, rises-low}
@@ -127,6 +130,54 @@ part-rises none-of f = tt
 part-rises (skip {k = k} {ls = ls} p) f = part-rises p (from-rises k ls f)
 part-rises (both {k = k} e p) f = rw e (part-from k p f)
 
+-- ---- the span of a record
+
+record Origin (s : Board) (evs : List Event) (q : Span) : Type 0 where
+  rect : Rect
+  spans : List Entry
+  span : Entry
+  in-pass : In (pass rect spans) evs
+  in-spans : In span spans
+  is : q ≡ recordOf s rect spans span
+
+record Mapped {A B : Type 0} (f : A → B) (l : List A) (y : B) : Type 0 where
+  of : A
+  in-list : In of l
+  is : y ≡ f of
+
+in-map : {A B : Type 0} (f : A → B) (l : List A) {y : B} → In y (map f l) → Mapped f l y
+in-map f (x ∷ l) here = record { of = x; in-list = here; is = refl }
+in-map f (x ∷ l) (there i) =
+    let m : Mapped f l _ = in-map f l i in
+    record { of = m .of; in-list = there (m .in-list); is = m .is }
+
+put-off : {A : Type 0} (y : A) {x : A} {a b : List A} → In x a ⊎ In x b → In x (y ∷ a) ⊎ In x b
+put-off y (inl j) = inl (there j)
+put-off y (inr j) = inr j
+
+in-append : {A : Type 0} (a b : List A) {x : A} → In x (a ++ b) → In x a ⊎ In x b
+in-append [] b i = inr i
+in-append (y ∷ a) b here = inl here
+in-append (y ∷ a) b (there i) = put-off y (in-append a b i)
+
+module _ (s : Board) where
+  further : (ev : Event) {evs : List Event} {q : Span} → Origin s evs q → Origin s (ev ∷ evs) q
+  further ev o = record { rect = o .rect; spans = o .spans; span = o .span; in-pass = there (o .in-pass); in-spans = o .in-spans; is = o .is }
+
+  from-pass : (r : Rect) (es : List Entry) {evs : List Event} {q : Span} → Mapped (recordOf s r es) es q → Origin s (pass r es ∷ evs) q
+  from-pass r es m = record { rect = r; spans = es; span = m .of; in-pass = here; in-spans = m .in-list; is = m .is }
+
+  either : (r : Rect) (es : List Entry) {evs : List Event} {q : Span} → (In q (placed s evs) → Origin s evs q)
+      → In q (map (recordOf s r es) es) ⊎ In q (placed s evs) → Origin s (pass r es ∷ evs) q
+  either r es h (inl j) = from-pass r es (in-map (recordOf s r es) es j)
+  either r es h (inr j) = further (pass r es) (h j)
+
+  placed-in : (evs : List Event) {q : Span} → In q (placed s evs) → Origin s evs q
+  unfolding passRecords
+  placed-in (pass r es ∷ evs) i = either r es (λ j. placed-in evs j) (in-append (map (recordOf s r es) es) (placed s evs) i)
+  placed-in (close a b ∷ evs) i = further (close a b) (placed-in evs i)
+  placed-in (stop x ∷ evs) i = further (stop x) (placed-in evs i)
+
 -- ---- a pass without a fault
 
 first-none : {A : Type 0} {B : Type 0} (f : A → Option B) {e : A} {l : List A} → In e l → firstFault f l ≡ none → f e ≡ none
@@ -142,14 +193,14 @@ of-select : {A : Type 0} (f : A → Bool) {e : A} (l : List A) → In e (select 
 of-select f (c ∷ l) i = in-kept (f c) c (λ j. of-select f l j) i
 
 -- a span's font is there, and has its characters
-char-none : (e : Entry) (f : Font) (x : Option (ℕ × ℕ)) → charFaultAfter e x f ≡ none → charFault (f .characters) (e .chars) ≡ none
-char-none e f none q = q
-char-none e f (some x) q = absurd (let z : _≡_ {A = ℕ} 0 1 = cc in omega arith)
+char-none : (msg : List ℕ) (e : Entry) (f : Font) (x : Option (ℕ × ℕ)) → charFaultAfter msg e x f ≡ none → charFault (f .characters) (charsOf msg e) ≡ none
+char-none msg e f none q = q
+char-none msg e f (some x) q = absurd (let z : _≡_ {A = ℕ} 0 1 = cc in omega arith)
 
-measured-in : (fs : List Font) (e : Entry) (q : Span) (o : Option Font) → fontNumbered (e .font) fs ≡ o → faultIn e o ≡ none → q .width ≡ widthIn e o
-    → q .height ≡ heightIn o → Measured fs e q
-measured-in fs e q none p f w h = absurd (let z : _≡_ {A = ℕ} 0 1 = cc in omega arith)
-measured-in fs e q (some f) p g w h = record { font = f; found = p; defined = char-none e f (versionFault (e .version) f) g; width = w; height = h }
+measured-in : (msg : List ℕ) (fs : List Font) (e : Entry) (q : Span) (o : Option Font) → fontNumbered (e .state .font) fs ≡ o → faultIn msg e o ≡ none → q .width ≡ widthIn msg e o
+    → q .height ≡ heightIn o → Measured msg fs e q
+measured-in msg fs e q none p f w h = absurd (let z : _≡_ {A = ℕ} 0 1 = cc in omega arith)
+measured-in msg fs e q (some f) p g w h = record { font = f; found = p; defined = char-none msg e f (versionFault (e .state .version) f) g; width = w; height = h }
 
 fault-none : (s : Board) (r : Rect) (es : List Entry) (e : Entry) (x : Option (ℕ × ℕ)) → faultAt s r es e x ≡ none → x ≡ none
 fault-none s r es e none q = refl
@@ -164,22 +215,22 @@ height-even u n (f ∷ fs) h = go (eqb (f .number) n) (height-even u n fs (λ g 
     go true k = h f here
     go false k = k
 
-module _ (c : Config) (fs : List Font) where
+module _ (c : Config) (fs : List Font) (msg : List ℕ) where
   abbrev s : Board
-  s = boardOf c fs
+  s = boardOf msg c fs
 
   even : Divides c fs → Even s
   unfolding boardOf meterOf
   even (inl z) = inl z
-  even (inr d) = inr (λ e. height-even (c .«char_height») (e .font) fs d)
+  even (inr d) = inr (λ e. height-even (c .«char_height») (e .state .font) fs d)
 
   meter-fault : (r : Rect) (es : List Entry) (e : Entry) → In e es → spanFault s r es e ≡ none → s .meter .fault e ≡ none
   unfolding spanFault
   meter-fault r es e i q = first-none (s .meter .fault) (in-select (same e) (same-refl e) i) (fault-none s r es e _ ((or-none _ _ q) .0))
 
-  measured : (r : Rect) (es : List Entry) (e : Entry) → In e es → spanFault s r es e ≡ none → Measured fs e (recordOf s r es e)
+  measured : (r : Rect) (es : List Entry) (e : Entry) → In e es → spanFault s r es e ≡ none → Measured msg fs e (recordOf s r es e)
   unfolding recordOf boardOf meterOf
-  measured r es e i q = measured-in fs e (recordOf s r es e) (fontNumbered (e .font) fs) refl (meter-fault r es e i q) refl refl
+  measured r es e i q = measured-in msg fs e (recordOf s r es e) (fontNumbered (e .state .font) fs) refl (meter-fault r es e i q) refl refl
 
   tells : (r : Rect) (es : List Entry) (e : Entry) → Tells r e (recordOf s r es e)
   unfolding recordOf
@@ -198,73 +249,92 @@ module _ (c : Config) (fs : List Font) where
         rect-height = refl;
       }
 
-  module _ (msg : List ℕ) where
-    abbrev Known : Rect → List Entry → Type 0
-    Known r es = (e : Entry) → In e es → (r ≡ rectAt s (whole s) (items msg) (e .start)) × TextIs msg e (e .kind)
+  abbrev Known : Rect → List Entry → Type 0
+  Known r es = (e : Entry) → In e es → r ≡ rectAt c (whole c) (items msg) (e .start)
 
-    pass-fine : (r : Rect) (es : List Entry) → Grid s r → Known r es → passFault s r es ≡ none → Stands c fs msg r es
-    unfolding passFault recordOf boardOf
-    pass-fine r es g k q =
-        let h : firstFault (spanFault s r es) es ≡ none = (or-none _ _ q) .1 in
-        record {
-          rect = λ e i. (k e i) .0;
-          tells = λ e i. tells r es e;
-          texts = λ e i. (k e i) .1;
-          measured = λ e i. measured r es e i (first-none (spanFault s r es) i h);
-          across = λ e i. across s r es e g i (first-none (spanFault s r es) i h);
-          down = λ e i d. down s r es e g (λ j. even (d j)) i (first-none (spanFault s r es) i h);
-          spacing = λ a b n u w. spacing s r es a b w n u (first-none (spanFault s r es) (of-select (same a) es (next-left n)) h);
-        }
+  pass-fine : (r : Rect) (es : List Entry) → Grid c r → Known r es → passFault s r es ≡ none → Stands c fs msg r es
+  unfolding passFault recordOf boardOf
+  pass-fine r es g k q =
+      let h : firstFault (spanFault s r es) es ≡ none = (or-none _ _ q) .1 in
+      record {
+        rect = λ e i. k e i;
+        tells = λ e i. tells r es e;
+        measured = λ e i. measured r es e i (first-none (spanFault s r es) i h);
+        across = λ e i. across s r es e g i (first-none (spanFault s r es) i h);
+        down = λ e i d. down s r es e g (λ j. even (d j)) i (first-none (spanFault s r es) i h);
+        spacing = λ a b n u w. spacing s r es a b w n u (first-none (spanFault s r es) (of-select (same a) es (next-left n)) h);
+      }
 
-    each-fine : (evs : List Event) → EachPass (λ r es. Grid s r) evs → EachPass Known evs → EachPass (λ r es. passFault s r es ≡ none) evs
-        → {r : Rect} {es : List Entry} → In (pass r es) evs → Stands c fs msg r es
-    each-fine (pass r es ∷ evs) g k p here = pass-fine r es (g .0) (k .0) (p .0)
-    each-fine (pass r es ∷ evs) g k p (there i) = each-fine evs (g .1) (k .1) (p .1) i
-    each-fine (close a b ∷ evs) g k p (there i) = each-fine evs g k p i
-    each-fine (stop x ∷ evs) g k p (there i) = each-fine evs g k p i
+  each-fine : (evs : List Event) → EachPass (λ r es. Grid c r) evs → EachPass Known evs → EachPass (λ r es. passFault s r es ≡ none) evs
+      → {r : Rect} {es : List Entry} → In (pass r es) evs → Stands c fs msg r es
+  each-fine (pass r es ∷ evs) g k p here = pass-fine r es (g .0) (k .0) (p .0)
+  each-fine (pass r es ∷ evs) g k p (there i) = each-fine evs (g .1) (k .1) (p .1) i
+  each-fine (close a b ∷ evs) g k p (there i) = each-fine evs g k p i
+  each-fine (stop x ∷ evs) g k p (there i) = each-fine evs g k p i
+
+  -- a record lies inside the rectangle at its place
+  module _ (evs : List Event) (h : (r : Rect) (es : List Entry) → In (pass r es) evs → Stands c fs msg r es) where
+    record-across : (q : Span) → In q (placed s evs) → Across (rectAtPlace c msg (q .start)) q
+    unfolding recordOf
+    record-across q i =
+        let o : Origin s evs q = placed-in s evs i in
+        let w : Stands c fs msg (o .rect) (o .spans) = h (o .rect) (o .spans) (o .in-pass) in
+        rw (o .is, (w .tells (o .span) (o .in-spans)) .start, ← w .rect (o .span) (o .in-spans)) (w .across (o .span) (o .in-spans))
+
+    record-down : (q : Span) → In q (placed s evs) → Divides c fs → Down (rectAtPlace c msg (q .start)) q
+    unfolding recordOf
+    record-down q i d =
+        let o : Origin s evs q = placed-in s evs i in
+        let w : Stands c fs msg (o .rect) (o .spans) = h (o .rect) (o .spans) (o .in-pass) in
+        rw (o .is, (w .tells (o .span) (o .in-spans)) .start, ← w .rect (o .span) (o .in-spans)) (w .down (o .span) (o .in-spans) (λ z. d))
 
 stopped-runs : (f : Option Refusal) (l : List Event) → Runs (stopIf f l) → (stopIf f l ≡ l) × Runs l
 stopped-runs none l h = (refl, h)
 stopped-runs (some r) l h = absurd h
 
 -- what is known of the events of a message that is read without refusal
-record Read (msg : List ℕ) (s : Board) (its : List Item) (evs : List Event) : Type 0 where
+record Read (c : Config) (its : List Item) (evs : List Event) : Type 0 where
   cover : Covers its [] (entries evs)
-  grid : EachPass (λ r es. Grid s r) evs
-  rects : EachPass (λ r es. (e : Entry) → In e es → (r ≡ rectAt s (whole s) its (e .start)) × TextIs msg e (e .kind)) evs
+  grid : EachPass (λ r es. Grid c r) evs
+  rects : EachPass (λ r es. (e : Entry) → In e es → r ≡ rectAt c (whole c) its (e .start)) evs
 
-events-read : (msg : List ℕ) (s : Board) (its : List Item) → Honest its → Rises (itemStarts its) → Runs (events msg s its) → Read msg s its (events msg s its)
+events-read : (msg : List ℕ) (c : Config) (its : List Item) → Honest its → Rises (itemStarts its) → Runs (events c its) → Read c its (events c its)
 unfolding events
-events-read msg s its v u h =
-    let o : Scan = opening s its in
-    let (e, h′) = stopped-runs (o .fault) (read msg s its (o .on) (o .off) (start s) true []) h in
+events-read msg c its v u h =
+    let o : Scan = opening c its in
+    let (e, h′) = stopped-runs (o .fault) (read c its (o .on) (o .off) (start c) true []) h in
     rw e
     (record {
-      cover = read-covers msg s its (o .on) (o .off) (start s) true [] v h′;
-      grid = read-grid msg s its (o .on) (o .off) (start s) true [] v (whole-grid s);
-      rects = read-known msg s (rectAt s (whole s) its) 0 its (o .on) (o .off) (start s) true [] v (rises-low its u) (λ n _. refl) (λ e i. elim i [ ]);
+      cover = read-covers msg c its (o .on) (o .off) (start c) true [] v h′;
+      grid = read-grid msg c its (o .on) (o .off) (start c) true [] v (whole-grid c);
+      rects = read-known msg c (rectAt c (whole c) its) 0 its (o .on) (o .off) (start c) true [] v (rises-low its u) (λ n _. refl) (λ e i. elim i [ ]);
     })
 
 -- demand 3 of the pages of a message
 pub record Told (c : Config) (fs : List Font) (msg : List ℕ) (qs : List Span) : Type 0 where
   pub printing : printedRecords qs ≡ printed (slices msg)
   pub rising : Rises (map (λ q. q .start) qs)
-  pub listed : qs ≡ placed (boardOf c fs) (events msg (boardOf c fs) (items msg))
-  pub passes : (r : Rect) (es : List Entry) → In (pass r es) (events msg (boardOf c fs) (items msg)) → Stands c fs msg r es
+  pub listed : qs ≡ placed (boardOf msg c fs) (events c (items msg))
+  pub passes : (r : Rect) (es : List Entry) → In (pass r es) (events c (items msg)) → Stands c fs msg r es
+  pub inside : (q : Span) → In q qs → Across (rectAtPlace c msg (q .start)) q
+  pub inside-down : (q : Span) → In q qs → Divides c fs → Down (rectAtPlace c msg (q .start)) q
 
-pub told : (c : Config) (fs : List Font) (msg : List ℕ) → NoRefusal (pages msg (boardOf c fs) (items msg))
-    → Told c fs msg (records (pages msg (boardOf c fs) (items msg)))
-unfolding pages
+pub told : (c : Config) (fs : List Font) (msg : List ℕ) → NoRefusal (pages (boardOf msg c fs) (items msg))
+    → Told c fs msg (records (pages (boardOf msg c fs) (items msg)))
+unfolding pages boardOf
 told c fs msg h =
-    let s : Board = boardOf c fs in
+    let s : Board = boardOf msg c fs in
     let its : List Item = items msg in
-    let evs : List Event = events msg s its in
-    let o : Scan = opening s its in
-    let w : Walked s evs [] (pages msg s its) = walked s evs (o .on) (o .off) [] 0 h in
-    let k : Read msg s its evs = events-read msg s its (items-honest msg) (items-rise msg) (w .runs) in
+    let evs : List Event = events c its in
+    let o : Scan = opening c its in
+    let w : Walked s evs [] (pages s its) = walked s evs (o .on) (o .off) [] 0 h in
+    let k : Read c its evs = events-read msg c its (items-honest msg) (items-rise msg) (w .runs) in
+    let f : (r : Rect) (es : List Entry) → In (pass r es) evs → Stands c fs msg r es = λ r es i. each-fine c fs msg evs (k .grid) (k .rects) (w .fine) i in
     record {
       printing = ap printedRecords (w .listed) ∙ placed-printed s evs ∙ ap printedEntries (k .cover .all) ∙ k .cover .prints ∙ items-printed msg;
       rising = rw (w .listed, placed-starts s evs, k .cover .all) (part-rises (k .cover .order) (items-rise msg));
       listed = w .listed;
-      passes = λ r es i. each-fine c fs msg evs (k .grid) (k .rects) (w .fine) i;
+      passes = f;
+      inside = rw (w .listed) (record-across c fs msg evs f);
+      inside-down = rw (w .listed) (record-down c fs msg evs f);
     }

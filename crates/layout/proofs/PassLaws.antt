@@ -9,7 +9,10 @@ use mathlib.Core.Option.{Option, none, some}
 use mathlib.Core.List.{List, [], _∷_}
 use lib.Dec.{eqb}
 use borrow.Author.Tests.{eq-eqb, leb-true, eqb-true}
-use Rattle.layout.specs.Types.{Rect, Entry, Meter, Board}
+use Rattle.records.specs.declared.Config.{Config}
+use Rattle.layout.specs.declared.Rect.{Rect}
+use Rattle.layout.specs.declared.Entry.{Entry}
+use Rattle.layout.specs.Types.{Meter, Board}
 use Rattle.layout.specs.Read.{unit}
 use Rattle.layout.specs.Demand.{In, here, there, Next, Rises, spans, Across, Down}
 use Rattle.layout.specs.Place.{orElse, unless, keep, select, same, samePage, due, before, after, placeX, group, beforeOf, afterOf, linesOf, aboveOf, belowOf, xOf, baseOf, recordOf, spanFault}
@@ -50,17 +53,17 @@ pub select-true {ℓ} : {A : Type ℓ} (f : A → Bool) {e : A} (l : List A) →
 select-true f (c ∷ l) i = keep-in f (f c) refl (λ j. select-true f l j) i
 
 pub same-refl : (e : Entry) → same e e ≡ true
-same-refl e = simp (eq-eqb (e .justPage) (e .justPage) refl, eq-eqb (e .line) (e .line) refl, eq-eqb (e .justLine) (e .justLine) refl)
+same-refl e = simp (eq-eqb (e .state .«just_page») (e .state .«just_page») refl, eq-eqb (e .state .line) (e .state .line) refl, eq-eqb (e .state .«just_line») (e .state .«just_line») refl)
 
 pub record Same (a b : Entry) : Type 0 where
-  pub justPage : a .justPage ≡ b .justPage
-  pub line : a .line ≡ b .line
-  pub justLine : a .justLine ≡ b .justLine
+  pub justPage : a .state .«just_page» ≡ b .state .«just_page»
+  pub line : a .state .line ≡ b .state .line
+  pub justLine : a .state .«just_line» ≡ b .state .«just_line»
 
 same-true : (a b : Entry) → same a b ≡ true → Same a b
 same-true a b q =
-    let (p, r) = and-true (eqb (a .justPage) (b .justPage)) (eqb (a .line) (b .line) && eqb (a .justLine) (b .justLine)) q in
-    let (l, j) = and-true (eqb (a .line) (b .line)) (eqb (a .justLine) (b .justLine)) r in
+    let (p, r) = and-true (eqb (a .state .«just_page») (b .state .«just_page»)) (eqb (a .state .line) (b .state .line) && eqb (a .state .«just_line») (b .state .«just_line»)) q in
+    let (l, j) = and-true (eqb (a .state .line) (b .state .line)) (eqb (a .state .«just_line») (b .state .«just_line»)) r in
     record { justPage = eqb-true _ _ p; line = eqb-true _ _ l; justLine = eqb-true _ _ j }
 
 same-group : (s : Board) (r : Rect) (es : List Entry) (a b : Entry) → Same a b → group s r es a ≡ group s r es b
@@ -84,14 +87,14 @@ passed s r es e q =
     record { width = leb-true _ _ (unless-none _ _ w); height = leb-true _ _ (unless-none _ _ h); base = leb-true _ _ (unless-none _ _ b) }
 
 -- the rectangle stands on the character grid
-pub record Grid (s : Board) (r : Rect) : Type 0 where
-  pub across : r .left % unit (s .charWidth) ≡ 0
-  pub down : r .top % unit (s .charHeight) ≡ 0
+pub record Grid (c : Config) (r : Rect) : Type 0 where
+  pub across : r .left % unit (c .«char_width») ≡ 0
+  pub down : r .top % unit (c .«char_height») ≡ 0
 
-pub across : (s : Board) (r : Rect) (es : List Entry) (e : Entry) → Grid s r → In e es → spanFault s r es e ≡ none → Across r (recordOf s r es e)
+pub across : (s : Board) (r : Rect) (es : List Entry) (e : Entry) → Grid (s .config) r → In e es → spanFault s r es e ≡ none → Across r (recordOf s r es e)
 unfolding recordOf xOf beforeOf afterOf
 across s r es e g i q =
-    let (l, w) = inside-x (e .justLine) (s .charWidth) r _ _ (s .meter .width e) (g .across) (width-after (s .meter) none (in-select (same e) (same-refl e) i)) ((passed s r es e q) .width) in
+    let (l, w) = inside-x (e .state .«just_line») (s .config .«char_width») r _ _ (s .meter .width e) (g .across) (width-after (s .meter) none (in-select (same e) (same-refl e) i)) ((passed s r es e q) .width) in
     record { left = l; right = w }
 
 divides-unit : (c h : ℕ) → h % c ≡ 0 → h % unit c ≡ 0
@@ -102,23 +105,23 @@ divides-unit (suc c) h e =
 
 -- the character height is 0, or divides the height of every span
 abbrev pub Even : Board → Type 0
-Even s = (s .charHeight ≡ 0) ⊎ ((e : Entry) → s .meter .height e % s .charHeight ≡ 0)
+Even s = (s .config .«char_height» ≡ 0) ⊎ ((e : Entry) → s .meter .height e % s .config .«char_height» ≡ 0)
 
-divides : (s : Board) (e : Entry) → Even s → s .meter .height e % unit (s .charHeight) ≡ 0
+divides : (s : Board) (e : Entry) → Even s → s .meter .height e % unit (s .config .«char_height») ≡ 0
 divides s e (inl z) = rw z (mod-one _)
-divides s e (inr d) = divides-unit (s .charHeight) _ (d e)
+divides s e (inr d) = divides-unit (s .config .«char_height») _ (d e)
 
-pub down : (s : Board) (r : Rect) (es : List Entry) (e : Entry) → Grid s r → (e .justPage ≡ 3 → Even s)
+pub down : (s : Board) (r : Rect) (es : List Entry) (e : Entry) → Grid (s .config) r → (e .state .«just_page» ≡ 3 → Even s)
     → In e es → spanFault s r es e ≡ none → Down r (recordOf s r es e)
 unfolding recordOf baseOf aboveOf belowOf linesOf
 down s r es e g d i q =
     let t : Passed s r es e = passed s r es e q in
-    let (o, b) = inside-y (e .justPage) (s .charHeight) r (aboveOf s r es e) (belowOf s r es e) (s .meter .height e) (g .down) (λ z. divides s e (d z))
-    (le-trans (tall-in (s .meter) [] (in-select (samePage e) (eq-eqb (e .justPage) (e .justPage) refl) i)) (tall-above (s .charHeight) (e .line) none (linesOf s r es e)))
+    let (o, b) = inside-y (e .state .«just_page») (s .config .«char_height») r (aboveOf s r es e) (belowOf s r es e) (s .meter .height e) (g .down) (λ z. divides s e (d z))
+    (le-trans (tall-in (s .meter) [] (in-select (samePage e) (eq-eqb (e .state .«just_page») (e .state .«just_page») refl) i)) (tall-above (s .config .«char_height») (e .state .line) none (linesOf s r es e)))
     (t .height) (t .base) in
     record { top = o; bottom = b }
 
-pub spacing : (s : Board) (r : Rect) (es : List Entry) (a b : Entry) → (a .justLine ≡ 3 → s .charWidth ≤ 1) → Next a b (group s r es a) → Rises (spans (group s r es a))
+pub spacing : (s : Board) (r : Rect) (es : List Entry) (a b : Entry) → (a .state .«just_line» ≡ 3 → s .config .«char_width» ≤ 1) → Next a b (group s r es a) → Rises (spans (group s r es a))
     → spanFault s r es a ≡ none → xOf s r es b ≡ xOf s r es a + s .meter .width a + due (s .meter) a b
 unfolding xOf beforeOf afterOf
 spacing s r es a b c n u q =
@@ -126,8 +129,8 @@ spacing s r es a b c n u q =
     let t : Passed s r es a = passed s r es a q in
     let k : Same a b = same-true a b (select-true (same a) es (next-right n)) in
     let g : group s r es a ≡ group s r es b = same-group s r es a b k in
-    let e : before m (b .span) none (group s r es a) ≡ before m (a .span) none (group s r es a) + (m .width a + due m a b) = before-next m none n u in
-    let x : xOf s r es b ≡ placeX (a .justLine) (s .charWidth) r (before m (b .span) none (group s r es a)) (after m (b .span) none (group s r es a)) = rw (g, k .justLine) in
+    let e : before m (b .state .span) none (group s r es a) ≡ before m (a .state .span) none (group s r es a) + (m .width a + due m a b) = before-next m none n u in
+    let x : xOf s r es b ≡ placeX (a .state .«just_line») (s .config .«char_width») r (before m (b .state .span) none (group s r es a)) (after m (b .state .span) none (group s r es a)) = rw (g, k .justLine) in
     x
-    ∙ next-x (a .justLine) (s .charWidth) r _ _ _ _ (m .width a) (due m a b) c e
-    (before-after m (a .span) none (group s r es a) ∙ sym (before-after m (b .span) none (group s r es a))) (t .width)
+    ∙ next-x (a .state .«just_line») (s .config .«char_width») r _ _ _ _ (m .width a) (due m a b) c e
+    (before-after m (a .state .span) none (group s r es a) ∙ sym (before-after m (b .state .span) none (group s r es a))) (t .width)

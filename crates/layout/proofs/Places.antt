@@ -1,26 +1,30 @@
 -- The place of a refusal lies within the message.
 use Prim.Native.Nat.{ℕ, zero, suc, _+_, _≤_}
 use native.Mathlib.Omega.{arith}
-use mathlib.Core.Path.{_≡_, sym, ap, _∙_}
+use mathlib.Core.Path.{_≡_, sym, _∙_}
 use mathlib.Core.Bool.{Bool, true, false, not}
 use mathlib.Core.Option.{Option, none, some}
 use mathlib.Core.List.{List, [], _∷_, _++_}
 use lib.Dec.{ltb}
 use lib.ListN.{length}
-use Rattle.base.specs.Pick.{pick}
-use Rattle.utf8.specs.Utf8.{wellFormed}
 use Rattle.records.specs.declared.Config.{Config}
-use Rattle.sign.specs.Sign.{Font, Sign, Accepted, signFile}
+use Rattle.sign.specs.Sign.{Font, Accepted, signFile}
 use Rattle.reading.specs.declared.Refusal.{Refusal}
 use Rattle.layout.specs.declared.Span.{Span}
 use Rattle.layout.specs.declared.Answer.{Answer}
 use Rattle.layout.specs.declared.Answer.the-variants.{On, Off, End, Refused}
-use Rattle.layout.specs.Types.{Item, items, refusal, Rect, Entry, State, Board}
+use Rattle.layout.specs.declared.Rect.{Rect}
+use Rattle.layout.specs.declared.RenderState.{RenderState}
+use Rattle.layout.specs.declared.Entry.{Entry}
+use Rattle.layout.specs.Types.{Item, items, refusal, Board}
 use Rattle.layout.specs.Fonts.{boardOf}
 use Rattle.layout.specs.Place.{orElse, unless, firstFault, faultAt, spanFault, goesBack, backFault, passFault, passRecords}
-use Rattle.layout.specs.Read.{Mark, plain, ends, timed, fails, markItem, scanBy, Step, refuse, go, emit, cut, turn, step, Scan, scan, Event, pass, close, stop, stopIf, newPage, start, follow, read, opening, events}
-use Rattle.layout.specs.Listing.{Page, on, off, refused, stopAt, offs, passStop, walk, pages, Result, numbered, refusing, resultOn, result, listing}
+use Rattle.layout.specs.declared.Step.{Step}
+use Rattle.layout.specs.declared.Step.the-variants.{Refuse, Go, Emit, Cut, Turn}
+use Rattle.layout.specs.Read.{Mark, plain, ends, timed, fails, markItem, scanBy, step, Scan, scan, Event, pass, close, stop, stopIf, newPage, start, follow, read, opening, events}
+use Rattle.layout.specs.Listing.{Page, on, off, refused, stopAt, offs, passStop, walk, pages, numbered, resultOn, listing}
 use Rattle.layout.proofs.Cover.{Fair, step-is-fair, Honest}
+use Rattle.layout.proofs.Checks.{accepted-result, answer-on}
 use Rattle.layout.proofs.Items.{AllIn, items-honest, items-in}
 
 -- top: the message's length
@@ -68,18 +72,18 @@ module _ (top : ℕ) where
 
   pass-fault : (s : Board) (n : ℕ) (r : Rect) (es : List Entry) → Spans es → Fault (passStop s n r es)
   unfolding passFault
-  pass-fault s n r es h = or-fault (or-fault (back-fault none es h) (spans-fault s r es es h)) (unless-fault (ltb n 50) (refusal 15 0 0 0) (omega arith))
+  pass-fault s n r es h = or-fault (or-fault (back-fault none es h) (spans-fault s r es es h)) (unless-fault _ (refusal 15 0 0 0) (omega arith))
 
   -- ---- a page's scan
 
-  scan-by : (s : Board) (a b : ℕ) (it : Item) (m : Mark) (next : ℕ → ℕ → Scan) → it .start + it .len ≤ top → ((p q : ℕ) → Fault ((next p q) .fault))
+  scan-by : (s : Config) (a b : ℕ) (it : Item) (m : Mark) (next : ℕ → ℕ → Scan) → it .start + it .len ≤ top → ((p q : ℕ) → Fault ((next p q) .fault))
       → Fault ((scanBy s a b it m next) .fault)
   scan-by s a b it plain next h k = k a b
   scan-by s a b it ends next h k = fine
   scan-by s a b it (timed p q) next h k = k _ _
   scan-by s a b it (fails n) next h k = faulty h
 
-  scan-fault : (s : Board) (a b : ℕ) (its : List Item) → AllIn top its → Fault ((scan s a b its) .fault)
+  scan-fault : (s : Config) (a b : ℕ) (its : List Item) → AllIn top its → Fault ((scan s a b its) .fault)
   scan-fault s a b [] h = fine
   scan-fault s a b (it ∷ its) h = scan-by s a b it (markItem (s .tags) (it .says)) (λ p q. scan s p q its) (h .0) (λ p q. scan-fault s p q its (h .1))
 
@@ -99,22 +103,22 @@ module _ (top : ℕ) where
   snoc-spans [] e h p = (p, tt)
   snoc-spans (x ∷ es) e h p = (h .0, snoc-spans es e (h .1) p)
 
-  module _ (msg : List ℕ) (s : Board) (it : Item) (its : List Item) (i : it .start + it .len ≤ top) (is : AllIn top its)
-      (k : ℕ → ℕ → State → Bool → List Entry → List Event) (hyp : (a b : ℕ) (st : State) (bl : Bool) (acc : List Entry) → Spans acc → Events (k a b st bl acc)) where
-    follow-in : (a b : ℕ) (st : State) (acc : List Entry) (t : Step) → Fair msg s st it t → Spans acc → Events (follow s a b st acc its k t)
-    follow-in a b st acc (refuse r) f h = (omega (arith, f .0, f .1), tt)
-    follow-in a b st acc (go st′ bl) f h = hyp a b st′ bl acc h
-    follow-in a b st acc (emit e st′ bl) f h = hyp a b st′ bl (acc ++ (e ∷ [])) (snoc-spans acc e h (omega (arith, f .3, f .5)))
-    follow-in a b st acc (cut st′) f h = (h, hyp a b st′ true [] tt)
-    follow-in a b st acc turn f h =
+  module _ (msg : List ℕ) (s : Config) (it : Item) (its : List Item) (i : it .start + it .len ≤ top) (is : AllIn top its)
+      (k : ℕ → ℕ → RenderState → Bool → List Entry → List Event) (hyp : (a b : ℕ) (st : RenderState) (bl : Bool) (acc : List Entry) → Spans acc → Events (k a b st bl acc)) where
+    follow-in : (a b : ℕ) (st : RenderState) (acc : List Entry) (t : Step) → Fair msg s st it t → Spans acc → Events (follow s a b st acc its k t)
+    follow-in a b st acc (Refuse r) f h = (omega (arith, f .0, f .1), tt)
+    follow-in a b st acc (Go st′ bl) f h = hyp a b st′ bl acc h
+    follow-in a b st acc (Emit e st′ bl) f h = hyp a b st′ bl (acc ++ (e ∷ [])) (snoc-spans acc e h (omega (arith, f .3, f .4)))
+    follow-in a b st acc (Cut st′) f h = (h, hyp a b st′ true [] tt)
+    follow-in a b st acc Turn f h =
         let c : Scan = scan s a b its in
         (h, events-stop (k (c .on) (c .off) (newPage s st) true []) (scan-fault s a b its is) (hyp (c .on) (c .off) (newPage s st) true [] tt))
 
-  read-in : (msg : List ℕ) (s : Board) (its : List Item) (a b : ℕ) (st : State) (bl : Bool) (acc : List Entry) → Honest its → AllIn top its → Spans acc
-      → Events (read msg s its a b st bl acc)
+  read-in : (msg : List ℕ) (s : Config) (its : List Item) (a b : ℕ) (st : RenderState) (bl : Bool) (acc : List Entry) → Honest its → AllIn top its → Spans acc
+      → Events (read s its a b st bl acc)
   read-in msg s [] a b st bl acc o h u = (u, tt)
   read-in msg s (it ∷ its) a b st bl acc o h u =
-      follow-in msg s it its (h .0) (h .1) (read msg s its) (λ a b st bl acc u. read-in msg s its a b st bl acc (o .1) (h .1) u) a b st acc (step msg s st bl it)
+      follow-in msg s it its (h .0) (h .1) (read s its) (λ a b st bl acc u. read-in msg s its a b st bl acc (o .1) (h .1) u) a b st acc (step s st bl it)
       (step-is-fair msg s st bl it (o .0)) u
 
   -- ---- the pages
@@ -157,29 +161,19 @@ module _ (top : ℕ) where
   numbered-in c (off d ∷ l) (suc n) h = numbered-in (suc c) l n h
   numbered-in c (refused r ∷ l) (suc n) h = h .0
 
-  checks-in : (t u v : Bool) (l : Result) → Placed (l .answer) → Placed ((pick t (refusing 2 0) (pick u (pick v (refusing 4 0) l) (refusing 3 0))) .answer)
-  checks-in true u v l h = omega arith
-  checks-in false false v l h = omega arith
-  checks-in false true true l h = omega arith
-  checks-in false true false l h = h
-
-pages-in : (msg : List ℕ) (s : Board) → Pages (length msg) (pages msg s (items msg))
+pages-in : (msg : List ℕ) (s : Board) → Pages (length msg) (pages s (items msg))
 unfolding pages events opening
 pages-in msg s =
-    let c : Scan = scan s (s .onTime) (s .offTime) (items msg) in
-    walk-in (length msg) s (events msg s (items msg)) (c .on) (c .off) [] 0
-    (events-stop (length msg) (read msg s (items msg) (c .on) (c .off) (start s) true [])
-    (scan-fault (length msg) s (s .onTime) (s .offTime) (items msg) (items-in msg))
-    (read-in (length msg) msg s (items msg) (c .on) (c .off) (start s) true [] (items-honest msg) (items-in msg) tt))
+    let c : Scan = scan (s .config) (s .config .«on_time») (s .config .«off_time») (items msg) in
+    walk-in (length msg) s (events (s .config) (items msg)) (c .on) (c .off) [] 0
+    (events-stop (length msg) (read (s .config) (items msg) (c .on) (c .off) (start (s .config)) true [])
+    (scan-fault (length msg) (s .config) (s .config .«on_time») (s .config .«off_time») (items msg) (items-in msg))
+    (read-in (length msg) msg (s .config) (items msg) (c .on) (c .off) (start (s .config)) true [] (items-honest msg) (items-in msg) tt))
 
 call-in : (c : Config) (fs : List Font) (msg : List ℕ) (n room : ℕ) → Placed (length msg) ((resultOn (Accepted c fs) msg n room) .answer)
 call-in c fs msg n room =
-    checks-in (length msg) (ltb 2048 (length msg)) (wellFormed msg) (ltb room 1400) (numbered 0 (pages msg (boardOf c fs) (items msg)) n)
-    (numbered-in (length msg) 0 (pages msg (boardOf c fs) (items msg)) n (pages-in msg (boardOf c fs)))
-
-answer-on : (file msg : List ℕ) (n : ℕ) (lent : List Span) (s : Sign) → signFile file ≡ s → listing file msg n lent ≡ (resultOn s msg n (length lent)) .answer
-unfolding listing result
-answer-on file msg n lent s e = ap (λ (x : Sign). (resultOn x msg n (length lent)) .answer) e
+    accepted-result msg n room (λ r. Placed (length msg) (r .answer)) c fs (λ k. omega arith)
+    (λ p q. numbered-in (length msg) 0 (pages (boardOf msg c fs) (items msg)) n (pages-in msg (boardOf msg c fs)))
 
 -- "get pages or a numbered refusal with its place"
 pub refusal-in : (file msg : List ℕ) (c : Config) (fs : List Font) → signFile file ≡ Accepted c fs → (n : ℕ) (lent : List Span) (r : Refusal)

@@ -8,9 +8,15 @@ use mathlib.Core.Option.{Option, none, some}
 use mathlib.Core.List.{List, [], _∷_, _++_}
 use borrow.Author.Tests.{le-leb, lt-leb}
 use Rattle.reading.specs.declared.Refusal.{Refusal}
-use Rattle.layout.specs.Types.{Item, Rect, Entry, State, Board}
-use Rattle.layout.specs.Demand.{rectAfter, rectAt, roleIn, In, here, there, From, Rises, TextIs}
-use Rattle.layout.specs.Read.{Step, refuse, go, emit, cut, turn, step, Scan, scan, Event, stopIf, whole, newPage, start, follow, read}
+use Rattle.records.specs.declared.Config.{Config}
+use Rattle.layout.specs.declared.Rect.{Rect}
+use Rattle.layout.specs.declared.RenderState.{RenderState}
+use Rattle.layout.specs.declared.Entry.{Entry}
+use Rattle.layout.specs.Types.{Item}
+use Rattle.layout.specs.Demand.{rectAfter, rectAt, roleIn, In, here, there, From, Rises}
+use Rattle.layout.specs.declared.Step.{Step}
+use Rattle.layout.specs.declared.Step.the-variants.{Refuse, Go, Emit, Cut, Turn}
+use Rattle.layout.specs.Read.{step, Scan, scan, Event, stopIf, whole, newPage, start, follow, read}
 use Rattle.layout.proofs.Cover.{Fair, step-is-fair, itemStarts, EachPass, Honest}
 
 -- the starts rise strictly from lo on
@@ -26,10 +32,10 @@ pub rises-low : (its : List Item) → Rises (itemStarts its) → Low 0 its
 rises-low [] f = tt
 rises-low (it ∷ its) f = (omega arith, from-low (it .start) its f)
 
-rect-here : (s : Board) (r : Rect) (it : Item) (its : List Item) → rectAt s r (it ∷ its) (it .start) ≡ r
+rect-here : (s : Config) (r : Rect) (it : Item) (its : List Item) → rectAt s r (it ∷ its) (it .start) ≡ r
 rect-here s r it its = rw (le-leb (it .start) (it .start) (le-refl _))
 
-rect-past : (s : Board) (r : Rect) (it : Item) (its : List Item) (n : ℕ) → it .start < n → rectAt s r (it ∷ its) n ≡ rectAt s (rectAfter s r (roleIn (it .says))) its n
+rect-past : (s : Config) (r : Rect) (it : Item) (its : List Item) (n : ℕ) → it .start < n → rectAt s r (it ∷ its) n ≡ rectAt s (rectAfter s r (roleIn (it .says))) its n
 rect-past s r it its n h = rw (lt-leb n (it .start) h)
 
 in-snoc : {e : Entry} (l : List Entry) (a : Entry) (P : Entry → Type 0) → ((c : Entry) → In c l → P c) → P a → In e (l ++ (a ∷ [])) → P e
@@ -38,9 +44,9 @@ in-snoc (c ∷ l) a P f p here = f c here
 in-snoc (c ∷ l) a P f p (there i) = in-snoc l a P (λ d j. f d (there j)) p i
 
 -- F: the rectangle at each position of the whole message
-module _ (msg : List ℕ) (s : Board) (F : ℕ → Rect) where
+module _ (msg : List ℕ) (s : Config) (F : ℕ → Rect) where
   abbrev Known : Rect → List Entry → Type 0
-  Known r es = (e : Entry) → In e es → (r ≡ F (e .start)) × TextIs msg e (e .kind)
+  Known r es = (e : Entry) → In e es → (r ≡ F (e .start))
 
   -- from lo on, what is left of the message tells F
   abbrev Tells : ℕ → Rect → List Item → Type 0
@@ -53,31 +59,31 @@ module _ (msg : List ℕ) (s : Board) (F : ℕ → Rect) where
   known-stop none l h = h
   known-stop (some r) l h = tt
 
-  module _ (it : Item) (its : List Item) (k : ℕ → ℕ → State → Bool → List Entry → List Event)
-      (hyp : (a b : ℕ) (st : State) (bl : Bool) (acc : List Entry) → Tells (suc (it .start)) (st .rect) its → Known (st .rect) acc → EachPass Known (k a b st bl acc)) where
+  module _ (it : Item) (its : List Item) (k : ℕ → ℕ → RenderState → Bool → List Entry → List Event)
+      (hyp : (a b : ℕ) (st : RenderState) (bl : Bool) (acc : List Entry) → Tells (suc (it .start)) (st .rect) its → Known (st .rect) acc → EachPass Known (k a b st bl acc)) where
     next : (lo : ℕ) (r r′ : Rect) → lo ≤ it .start → rectAfter s r (roleIn (it .says)) ≡ r′ → Tells lo r (it ∷ its) → Tells (suc (it .start)) r′ its
     next lo r r′ h e t n m = t n (omega arith) ∙ rect-past s r it its n m ∙ ap (λ (x : Rect). rectAt s x its n) e
 
-    follow-known : (lo a b : ℕ) (st : State) (acc : List Entry) (t : Step) → lo ≤ it .start → Fair msg s st it t → Tells lo (st .rect) (it ∷ its) → Known (st .rect) acc
+    follow-known : (lo a b : ℕ) (st : RenderState) (acc : List Entry) (t : Step) → lo ≤ it .start → Fair msg s st it t → Tells lo (st .rect) (it ∷ its) → Known (st .rect) acc
         → EachPass Known (follow s a b st acc its k t)
-    follow-known lo a b st acc (refuse r) h f t u = tt
-    follow-known lo a b st acc (go st′ bl) h f t u =
-        hyp a b st′ bl acc (next lo (st .rect) (st′ .rect) h (f .1 ∙ sym (f .0)) t) (λ e i. (f .0 ∙ (u e i) .0, (u e i) .1))
-    follow-known lo a b st acc (emit e st′ bl) h f t u =
+    follow-known lo a b st acc (Refuse r) h f t u = tt
+    follow-known lo a b st acc (Go st′ bl) h f t u =
+        hyp a b st′ bl acc (next lo (st .rect) (st′ .rect) h (f .1 ∙ sym (f .0)) t) (λ e i. f .0 ∙ u e i)
+    follow-known lo a b st acc (Emit e st′ bl) h f t u =
         hyp a b st′ bl (acc ++ (e ∷ [])) (next lo (st .rect) (st′ .rect) h (f .1 ∙ sym (f .0)) t)
         (λ c i.
-        let k : (st .rect ≡ F (c .start)) × TextIs msg c (c .kind) =
-        in-snoc acc e (λ d. (st .rect ≡ F (d .start)) × TextIs msg d (d .kind)) u (sym (ap F (f .3) ∙ t (it .start) h ∙ rect-here s (st .rect) it its), f .4) i in
-        (f .0 ∙ k .0, k .1))
-    follow-known lo a b st acc (cut st′) h f t u =
+        let k : st .rect ≡ F (c .start) =
+        in-snoc acc e (λ d. st .rect ≡ F (d .start)) u (sym (ap F (f .3) ∙ t (it .start) h ∙ rect-here s (st .rect) it its)) i in
+        f .0 ∙ k)
+    follow-known lo a b st acc (Cut st′) h f t u =
         (u, hyp a b st′ true [] (next lo (st .rect) (st′ .rect) h (f .1) t) (none-known (st′ .rect)))
-    follow-known lo a b st acc turn h f t u =
+    follow-known lo a b st acc Turn h f t u =
         let c : Scan = scan s a b its in
         (u, known-stop (c .fault) _ (hyp (c .on) (c .off) (newPage s st) true [] (next lo (st .rect) (whole s) h (f .0) t) (none-known (whole s))))
 
-  pub read-known : (lo : ℕ) (its : List Item) (a b : ℕ) (st : State) (bl : Bool) (acc : List Entry) → Honest its → Low lo its → Tells lo (st .rect) its → Known (st .rect) acc
-      → EachPass Known (read msg s its a b st bl acc)
+  pub read-known : (lo : ℕ) (its : List Item) (a b : ℕ) (st : RenderState) (bl : Bool) (acc : List Entry) → Honest its → Low lo its → Tells lo (st .rect) its → Known (st .rect) acc
+      → EachPass Known (read s its a b st bl acc)
   read-known lo [] a b st bl acc o h t u = (u, tt)
   read-known lo (it ∷ its) a b st bl acc o h t u =
-      follow-known it its (read msg s its) (λ a b st bl acc t u. read-known (suc (it .start)) its a b st bl acc (o .1) (h .1) t u) lo a b st acc (step msg s st bl it) (h .0)
+      follow-known it its (read s its) (λ a b st bl acc t u. read-known (suc (it .start)) its a b st bl acc (o .1) (h .1) t u) lo a b st acc (step s st bl it) (h .0)
       (step-is-fair msg s st bl it (o .0)) t u

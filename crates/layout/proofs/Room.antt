@@ -2,24 +2,27 @@
 use Prim.Native.Nat.{ℕ, zero, suc, _+_, _≤_}
 use native.Mathlib.Omega.{arith}
 use mathlib.Core.Path.{_≡_, refl, ap}
-use mathlib.Core.Bool.{Bool, true, false}
+use mathlib.Core.Bool.{Bool, true}
 use mathlib.Core.Option.{Option, none, some}
 use mathlib.Core.List.{List, [], _∷_, _++_, map}
-use lib.Dec.{ltb}
 use lib.ListN.{length, drop, length-append, length-drop}
-use borrow.Author.Tests.{ltb-false}
-use Rattle.base.specs.Pick.{pick}
-use Rattle.utf8.specs.Utf8.{wellFormed}
-use Rattle.sign.specs.Sign.{Sign, Accepted, RefusedAt, signFile}
+use Rattle.sign.specs.Sign.{Sign, signFile}
 use Rattle.reading.specs.declared.Refusal.{Refusal}
 use Rattle.layout.specs.declared.Span.{Span}
-use Rattle.layout.specs.declared.Answer.the-variants.{Refused}
-use Rattle.layout.specs.Types.{Item, items, Rect, Entry, State, Board}
+use Rattle.layout.specs.declared.Answer.the-variants.{On, Refused}
+use Rattle.layout.specs.declared.Rect.{Rect}
+use Rattle.layout.specs.declared.RenderState.{RenderState}
+use Rattle.layout.specs.declared.Entry.{Entry}
+use Rattle.records.specs.declared.Config.{Config}
+use Rattle.layout.specs.Types.{Item, items, Board}
 use Rattle.layout.specs.Fonts.{boardOf}
 use Rattle.layout.specs.Place.{passRecords, recordOf}
-use Rattle.layout.specs.Read.{Step, refuse, go, emit, cut, turn, step, Scan, scan, Event, pass, close, stop, stopIf, newPage, start, follow, read, opening, events}
-use Rattle.layout.specs.Listing.{Page, on, off, refused, stopAt, offs, passStop, walk, pages, Result, numbered, refusing, resultOn, result, listing, after}
+use Rattle.layout.specs.declared.Step.{Step}
+use Rattle.layout.specs.declared.Step.the-variants.{Refuse, Go, Emit, Cut, Turn}
+use Rattle.layout.specs.Read.{step, Scan, scan, Event, pass, close, stop, stopIf, newPage, start, follow, read, opening, events}
+use Rattle.layout.specs.Listing.{Page, on, off, refused, stopAt, offs, passStop, walk, pages, Result, numbered, resultOn, result, listing, after}
 use Rattle.layout.proofs.Cover.{Fair, step-is-fair, Honest, entries}
+use Rattle.layout.proofs.Checks.{any-result}
 use Rattle.layout.proofs.Items.{okays, items-honest, items-few}
 
 -- ---- the spans of a message
@@ -28,31 +31,31 @@ entries-stop : (f : Option Refusal) (l : List Event) → length (entries (stopIf
 entries-stop none l = omega arith
 entries-stop (some r) l = omega arith
 
-module _ (msg : List ℕ) (s : Board) (it : Item) (its : List Item) (k : ℕ → ℕ → State → Bool → List Entry → List Event)
-    (hyp : (a b : ℕ) (st : State) (bl : Bool) (acc : List Entry) → length (entries (k a b st bl acc)) ≤ length acc + okays its) where
-  follow-few : (a b : ℕ) (st : State) (acc : List Entry) (t : Step) → Fair msg s st it t
+module _ (msg : List ℕ) (s : Config) (it : Item) (its : List Item) (k : ℕ → ℕ → RenderState → Bool → List Entry → List Event)
+    (hyp : (a b : ℕ) (st : RenderState) (bl : Bool) (acc : List Entry) → length (entries (k a b st bl acc)) ≤ length acc + okays its) where
+  follow-few : (a b : ℕ) (st : RenderState) (acc : List Entry) (t : Step) → Fair msg s st it t
       → length (entries (follow s a b st acc its k t)) ≤ length acc + okays (it ∷ its)
-  follow-few a b st acc (refuse r) f = omega arith
-  follow-few a b st acc (go st′ bl) f = omega (arith, hyp a b st′ bl acc)
-  follow-few a b st acc (emit e st′ bl) f = omega (arith, hyp a b st′ bl (acc ++ (e ∷ [])), length-append acc (e ∷ []), f .6)
-  follow-few a b st acc (cut st′) f = omega (arith, hyp a b st′ true [], length-append acc (entries (k a b st′ true [])))
-  follow-few a b st acc turn f =
+  follow-few a b st acc (Refuse r) f = omega arith
+  follow-few a b st acc (Go st′ bl) f = omega (arith, hyp a b st′ bl acc)
+  follow-few a b st acc (Emit e st′ bl) f = omega (arith, hyp a b st′ bl (acc ++ (e ∷ [])), length-append acc (e ∷ []), f .5)
+  follow-few a b st acc (Cut st′) f = omega (arith, hyp a b st′ true [], length-append acc (entries (k a b st′ true [])))
+  follow-few a b st acc Turn f =
       let c : Scan = scan s a b its in
       let l : List Event = k (c .on) (c .off) (newPage s st) true [] in
       omega (arith, length-append acc (entries (stopIf (c .fault) l)), entries-stop (c .fault) l, hyp (c .on) (c .off) (newPage s st) true [])
 
-read-few : (msg : List ℕ) (s : Board) (its : List Item) (a b : ℕ) (st : State) (bl : Bool) (acc : List Entry) → Honest its
-    → length (entries (read msg s its a b st bl acc)) ≤ length acc + okays its
+read-few : (msg : List ℕ) (s : Config) (its : List Item) (a b : ℕ) (st : RenderState) (bl : Bool) (acc : List Entry) → Honest its
+    → length (entries (read s its a b st bl acc)) ≤ length acc + okays its
 read-few msg s [] a b st bl acc h = omega (arith, length-append acc [])
 read-few msg s (it ∷ its) a b st bl acc h =
-    follow-few msg s it its (read msg s its) (λ a b st bl acc. read-few msg s its a b st bl acc (h .1)) a b st acc (step msg s st bl it)
+    follow-few msg s it its (read s its) (λ a b st bl acc. read-few msg s its a b st bl acc (h .1)) a b st acc (step s st bl it)
     (step-is-fair msg s st bl it (h .0))
 
-events-few : (msg : List ℕ) (s : Board) → length (entries (events msg s (items msg))) ≤ okays (items msg)
+events-few : (msg : List ℕ) (s : Config) → length (entries (events s (items msg))) ≤ okays (items msg)
 unfolding events
 events-few msg s =
     let o : Scan = opening s (items msg) in
-    let l : List Event = read msg s (items msg) (o .on) (o .off) (start s) true [] in
+    let l : List Event = read s (items msg) (o .on) (o .off) (start s) true [] in
     omega (arith, entries-stop (o .fault) l, read-few msg s (items msg) (o .on) (o .off) (start s) true [] (items-honest msg))
 
 -- ---- the records of a page
@@ -100,28 +103,18 @@ numbered-small top c (off d ∷ l) (suc n) h = numbered-small top (suc c) l n h
 numbered-small top c (refused r ∷ l) (suc n) h = omega arith
 
 -- "records always fit": a page has at most 1,400
-pub pages-small : (msg : List ℕ) (s : Board) → length msg ≤ 2048 → (n : ℕ) → length ((numbered 0 (pages msg s (items msg)) n) .written) ≤ 1400
+pub pages-small : (msg : List ℕ) (s : Board) → length msg ≤ 2048 → (n : ℕ) → length ((numbered 0 (pages s (items msg)) n) .written) ≤ 1400
 unfolding pages
 pages-small msg s h n =
-    let o : Scan = opening s (items msg) in
-    numbered-small 1400 0 (pages msg s (items msg)) n
-    (walk-small 1400 s (events msg s (items msg)) (o .on) (o .off) [] 0 (omega (arith, events-few msg s, items-few msg)))
+    let o : Scan = opening (s .config) (items msg) in
+    numbered-small 1400 0 (pages s (items msg)) n
+    (walk-small 1400 s (events (s .config) (items msg)) (o .on) (o .off) [] 0 (omega (arith, events-few msg (s .config), items-few msg)))
 
 -- ---- the slice after a call
 
 written-room : (s : Sign) (msg : List ℕ) (n room : ℕ) → length ((resultOn s msg n room) .written) ≤ room
-written-room (RefusedAt at) msg n room = omega arith
-written-room (Accepted c fs) msg n room = look (ltb 2048 (length msg)) (wellFormed msg) (ltb room 1400) refl refl
-  where
-    l : Result
-    l = numbered 0 (pages msg (boardOf c fs) (items msg)) n
-
-    look : (t u v : Bool) → ltb 2048 (length msg) ≡ t → ltb room 1400 ≡ v
-        → length ((pick t (refusing 2 0) (pick u (pick v (refusing 4 0) l) (refusing 3 0))) .written) ≤ room
-    look true u v p q = omega arith
-    look false false v p q = omega arith
-    look false true true p q = omega arith
-    look false true false p q = omega (arith, ltb-false room 1400 q, pages-small msg (boardOf c fs) (ltb-false 2048 (length msg) p) n)
+written-room s msg n room =
+    any-result msg n room (λ r. length (r .written) ≤ room) (λ k at. omega arith) (λ c fs p q. omega (arith, pages-small msg (boardOf msg c fs) p n)) s
 
 pub keeps : (file msg : List ℕ) (n : ℕ) (lent : List Span) → length (after file msg n lent) ≡ length lent
 unfolding after result
@@ -143,19 +136,29 @@ numbered-quiet c (off d ∷ l) (suc n) x e = numbered-quiet (suc c) l n x e
 numbered-quiet c (refused r ∷ l) (suc n) x e = refl
 
 result-quiet : (s : Sign) (msg : List ℕ) (n room : ℕ) → Quiet (resultOn s msg n room)
-result-quiet (RefusedAt at) msg n room = λ x e. refl
-result-quiet (Accepted c fs) msg n room = look (ltb 2048 (length msg)) (wellFormed msg) (ltb room 1400)
-  where
-    l : Result
-    l = numbered 0 (pages msg (boardOf c fs) (items msg)) n
-
-    look : (t u v : Bool) → Quiet (pick t (refusing 2 0) (pick u (pick v (refusing 4 0) l) (refusing 3 0)))
-    look true u v x e = refl
-    look false false v x e = refl
-    look false true true x e = refl
-    look false true false x e = numbered-quiet 0 (pages msg (boardOf c fs) (items msg)) n x e
+result-quiet s msg n room =
+    any-result msg n room Quiet (λ k at x e. refl) (λ c fs p q. numbered-quiet 0 (pages (boardOf msg c fs) (items msg)) n) s
 
 pub unchanged : (file msg : List ℕ) (n : ℕ) (lent : List Span) (x : Refusal) → listing file msg n lent ≡ Refused x → after file msg n lent ≡ lent
 unfolding after listing result
 unchanged file msg n lent x e =
     ap (λ (w : List Span). w ++ drop (length w) lent) (result-quiet (signFile file) msg n (length lent) x e)
+
+-- an on answer counts what it wrote
+abbrev Counts : Result → Type 0
+Counts r = (d k : ℕ) → r .answer ≡ On d k → k ≡ length (r .written)
+
+numbered-counts : (c : ℕ) (l : List Page) (n : ℕ) → Counts (numbered c l n)
+numbered-counts c [] n d k e = absurd (let z : _≡_ {A = ℕ} 0 1 = cc in omega arith)
+numbered-counts c (on a rs ∷ l) zero d k e = cc
+numbered-counts c (off a ∷ l) zero d k e = absurd (let z : _≡_ {A = ℕ} 0 1 = cc in omega arith)
+numbered-counts c (refused r ∷ l) zero d k e = absurd (let z : _≡_ {A = ℕ} 0 1 = cc in omega arith)
+numbered-counts c (on a rs ∷ l) (suc n) d k e = numbered-counts (suc c) l n d k e
+numbered-counts c (off a ∷ l) (suc n) d k e = numbered-counts (suc c) l n d k e
+numbered-counts c (refused r ∷ l) (suc n) d k e = absurd (let z : _≡_ {A = ℕ} 0 1 = cc in omega arith)
+
+pub fits : (file msg : List ℕ) (n : ℕ) (lent : List Span) (d k : ℕ) → listing file msg n lent ≡ On d k → k ≤ 1400
+unfolding listing result
+fits file msg n lent d k =
+    any-result msg n (length lent) (λ r. r .answer ≡ On d k → k ≤ 1400) (λ j at e. absurd (let z : _≡_ {A = ℕ} 0 1 = cc in omega arith))
+    (λ c fs p q e. omega (arith, pages-small msg (boardOf msg c fs) p n, numbered-counts 0 (pages (boardOf msg c fs) (items msg)) n d k e)) (signFile file)

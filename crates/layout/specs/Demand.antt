@@ -1,13 +1,12 @@
 -- Demand 3: what holds of a whole listing that no refusal ends. Document 01, "What demand 3 compares".
-use Prim.Native.Nat.{ℕ, zero, suc, _+_, _*_, _≤_, _<_, _%_}
+use Prim.Native.Nat.{ℕ, zero, suc, _+_, _≤_, _<_, _%_}
 use mathlib.Core.Path.{_≡_}
 use mathlib.Core.Logic.{_⊎_}
 use mathlib.Core.List.{List, [], _∷_, _++_, map}
 use mathlib.Core.Option.{some, none}
 use lib.Dec.{leb}
-use lib.ListN.{length, take, drop}
+use lib.ListN.{length, take}
 use Rattle.base.specs.Pick.{pick}
-use Rattle.utf8.specs.Utf8.{codes}
 use Rattle.token.specs.declared.Shape.{Shape}
 use Rattle.token.specs.declared.Shape.the-variants.{Bracket, Tag, Stray, Text as TextShape}
 use Rattle.token.specs.Token.{Slice, shapeOf, slices}
@@ -17,15 +16,17 @@ use Rattle.value.specs.declared.Value.{Value}
 use Rattle.value.specs.declared.Value.the-variants.{ColorBackground, ColorForeground, ColorRectangle, Field, Flash, FlashEnd, Font, Graphic, HexadecimalCharacter, JustificationLine, JustificationPage, ManufacturerSpecific, ManufacturerSpecificEnd, MovingText, NewLine, NewPage, PageBackground, PageTime, SpacingCharacter, SpacingCharacterEnd, Text, TextRectangle}
 use Rattle.reading.specs.declared.Item.{Item as Said}
 use Rattle.reading.specs.declared.Item.the-variants.{Is, Fails}
-use Rattle.reading.specs.declared.Refusal.{Refusal}
 use Rattle.reading.specs.Reading.{itemOf}
 use Rattle.records.specs.declared.Config.{Config}
 use Rattle.sign.specs.Sign.{Font as SignFont, Accepted, signFile}
 use Rattle.layout.specs.declared.Span.{Span}
 use Rattle.layout.specs.declared.Answer.{Answer}
 use Rattle.layout.specs.declared.Answer.the-variants.{On, Off, End, Refused}
-use Rattle.layout.specs.Types.{Item, items, given, Rect, Entry, Board}
-use Rattle.layout.specs.Fonts.{fontNumbered, widthFrom, charFault, boardOf}
+use Rattle.layout.specs.declared.Rect.{Rect}
+use Rattle.layout.specs.declared.Entry.{Entry}
+use Rattle.layout.specs.Types.{Item, items, given, Board}
+use Rattle.measure.specs.Widths.{widthFrom, charFault}
+use Rattle.layout.specs.Fonts.{charsOf, fontNumbered, boardOf}
 use Rattle.layout.specs.Place.{group, due, recordOf, passRecords}
 use Rattle.layout.specs.Read.{rectOf, whole, Event, pass, close, stop, events}
 use Rattle.layout.specs.Listing.{listing, after}
@@ -149,7 +150,7 @@ printedRecords (q ∷ qs) = printedBy (q .kind) (q .start) (q .length) ++ printe
 -- ---- where a span stands
 
 -- the text rectangle after a slice: that of a [tr], "a zero size reaching to the sign's edge"; the whole sign on a new page; else as before
-abbrev pub rectAfter : Board → Rect → Role → Rect
+abbrev pub rectAfter : Config → Rect → Role → Rect
 rectAfter s r (text p) = r
 rectAfter s r hexadecimal = r
 rectAfter s r (rectangle q) = rectOf s q
@@ -157,9 +158,12 @@ rectAfter s r newPage = whole s
 rectAfter s r other = r
 
 -- the text rectangle at a place of the message, from one at its start: "the last [tr] before it on its page"
-abbrev pub rectAt : Board → Rect → List Item → ℕ → Rect
+abbrev pub rectAt : Config → Rect → List Item → ℕ → Rect
 rectAt s r [] n = r
 rectAt s r (it ∷ its) n = pick (leb n (it .start)) r (rectAt s (rectAfter s r (roleIn (it .says))) its n)
+
+abbrev pub rectAtPlace : Config → List ℕ → ℕ → Rect
+rectAtPlace c msg n = rectAt c (whole c) (items msg) n
 
 -- "Inside: x is at least the rectangle's x - 1, x + width at most the rectangle's x - 1 + its width"
 pub record Across (r : Rect) (q : Span) : Type 0 where
@@ -178,26 +182,20 @@ pub record Tells (r : Rect) (e : Entry) (q : Span) : Type 0 where
   pub start : q .start ≡ e .start
   pub length : q .length ≡ e .len
   pub code : q .code ≡ e .code
-  pub font : q .font ≡ e .font
-  pub line : q .line ≡ e .line
-  pub span : q .span ≡ e .span
+  pub font : q .font ≡ e .state .font
+  pub line : q .line ≡ e .state .line
+  pub span : q .span ≡ e .state .span
   pub rect-x : q .«rect_x» ≡ suc (r .left)
   pub rect-y : q .«rect_y» ≡ suc (r .top)
   pub rect-width : q .«rect_width» ≡ r .width
   pub rect-height : q .«rect_height» ≡ r .height
 
--- the text of a span of a kind, as code points: the message's from its start on, an [hc]'s code, or none
-abbrev pub TextIs : List ℕ → Entry → ℕ → Type 0
-TextIs msg e zero = e .chars ≡ codes (take (e .len) (drop (e .start) msg))
-TextIs msg e (suc zero) = e .chars ≡ e .code ∷ []
-TextIs msg e (suc (suc k)) = e .chars ≡ []
-
 -- "A span's width is the measure of its text, 0 for an empty one; its height is its font's, an empty span's too"; its font has its characters
-pub record Measured (fs : List SignFont) (e : Entry) (q : Span) : Type 0 where
+pub record Measured (msg : List ℕ) (fs : List SignFont) (e : Entry) (q : Span) : Type 0 where
   pub font : SignFont
-  pub found : fontNumbered (e .font) fs ≡ some font
-  pub defined : charFault (font .characters) (e .chars) ≡ none
-  pub width : q .width ≡ widthFrom (font .characters) (given (e .charSpacing) (font .charSpacing)) 0 (e .chars)
+  pub found : fontNumbered (e .state .font) fs ≡ some font
+  pub defined : charFault (font .characters) (charsOf msg e) ≡ none
+  pub width : q .width ≡ widthFrom (font .characters) (given (e .state .«char_spacing») (font .charSpacing)) 0 (charsOf msg e)
   pub height : q .height ≡ font .height
 
 -- "the character height is 0 or divides every font height"
@@ -205,7 +203,7 @@ abbrev pub Divides : Config → List SignFont → Type 0
 Divides c fs = (c .«char_height» ≡ 0) ⊎ ((f : SignFont) → In f fs → f .height % c .«char_height» ≡ 0)
 
 abbrev pub spans : List Entry → List ℕ
-spans es = map (λ e. e .span) es
+spans es = map (λ e. e .state .span) es
 
 -- the records of the passes, one for each span
 abbrev pub placed : Board → List Event → List Span
@@ -217,24 +215,23 @@ placed s (stop x ∷ evs) = placed s evs
 -- a pass of a message, in the rectangle r with the spans es: the record of a span e is `recordOf s r es e`
 module _ (c : Config) (fs : List SignFont) (msg : List ℕ) (r : Rect) (es : List Entry) where
   abbrev record-of : Entry → Span
-  record-of e = recordOf (boardOf c fs) r es e
+  record-of e = recordOf (boardOf msg c fs) r es e
 
   abbrev group-of : Entry → List Entry
-  group-of e = group (boardOf c fs) r es e
+  group-of e = group (boardOf msg c fs) r es e
 
   pub record Stands : Type 0 where
     -- "A span's text rectangle is the last [tr] before it on its page .. or else the whole sign"
-    pub rect : (e : Entry) → In e es → r ≡ rectAt (boardOf c fs) (whole (boardOf c fs)) (items msg) (e .start)
+    pub rect : (e : Entry) → In e es → r ≡ rectAtPlace c msg (e .start)
     pub tells : (e : Entry) → In e es → Tells r e (record-of e)
-    pub texts : (e : Entry) → In e es → TextIs msg e (e .kind)
-    pub measured : (e : Entry) → In e es → Measured fs e (record-of e)
+    pub measured : (e : Entry) → In e es → Measured msg fs e (record-of e)
     -- "each span lies inside its text rectangle on all four sides"; "For the top and bottom of middle placing this holds if" the height divides
     pub across : (e : Entry) → In e es → Across r (record-of e)
-    pub down : (e : Entry) → In e es → (e .justPage ≡ 3 → Divides c fs) → Down r (record-of e)
+    pub down : (e : Entry) → In e es → (e .state .«just_page» ≡ 3 → Divides c fs) → Down r (record-of e)
     -- "of two neighbours in one justification group the later one's x = the earlier one's x + its width + the spacing due", "if the group's span
     -- numbers rise strictly in the message's order and, in centred lines, the character width is 0 or 1"
-    pub spacing : (a b : Entry) → Next a b (group-of a) → Rises (spans (group-of a)) → (a .justLine ≡ 3 → c .«char_width» ≤ 1)
-        → (record-of b) .x ≡ (record-of a) .x + (record-of a) .width + due (boardOf c fs .meter) a b
+    pub spacing : (a b : Entry) → Next a b (group-of a) → Rises (spans (group-of a)) → (a .state .«just_line» ≡ 3 → c .«char_width» ≤ 1)
+        → (record-of b) .x ≡ (record-of a) .x + (record-of a) .width + due ((boardOf msg c fs) .meter) a b
 
 -- of a whole listing
 pub record Demand3 (file msg : List ℕ) (lent : ℕ → List Span) (N : ℕ) : Type 0 where
@@ -247,44 +244,8 @@ pub record Demand3 (file msg : List ℕ) (lent : ℕ → List Span) (N : ℕ) : 
   pub printing : printedRecords (listed file msg lent 0 N) ≡ printed (slices msg)
   pub rising : Rises (map (λ q. q .start) (listed file msg lent 0 N))
   -- the records are those of the message's spans, pass by pass
-  pub spans-listed : listed file msg lent 0 N ≡ placed (boardOf config fonts) (events msg (boardOf config fonts) (items msg))
-  pub passes : (r : Rect) (es : List Entry) → In (pass r es) (events msg (boardOf config fonts) (items msg)) → Stands config fonts msg r es
-
--- ---- what holds of every call, refused or not
-
--- the number of [np]
-abbrev pub breaks : Role → ℕ
-breaks (text p) = 0
-breaks hexadecimal = 0
-breaks (rectangle r) = 0
-breaks newPage = 1
-breaks other = 0
-
-abbrev pub pageBreaks : List Item → ℕ
-pageBreaks [] = 0
-pageBreaks (it ∷ its) = breaks (roleIn (it .says)) + pageBreaks its
-
--- the answer is the end or a refusal
-abbrev pub Stops : Answer → Type 0
-Stops (On d n) = ⊥
-Stops (Off d) = ⊥
-Stops (End n) = Unit {0}
-Stops (Refused r) = Unit {0}
-
--- asked for answers 0, 1 and on, the end or a refusal comes, after `top` answers at most
-pub record StopsBy (file msg : List ℕ) (lent : ℕ → List Span) (top : ℕ) : Type 0 where
-  pub last : ℕ
-  pub soon : last ≤ top
-  pub shows : (n : ℕ) → n < last → Shows (listing file msg n (lent n))
-  pub stops : Stops (listing file msg last (lent last))
-
-pub record Bounded (file msg : List ℕ) : Type 0 where
-  -- "A message has at most 2 × (number of [np] + 1) answers"
-  pub answers : (lent : ℕ → List Span) → StopsBy file msg lent (2 * suc (pageBreaks (items msg)))
-  -- what a call writes fits the slice, which keeps its length
-  pub keeps : (n : ℕ) (lent : List Span) → length (after file msg n lent) ≡ length lent
-  -- a refusal "changes no record"
-  pub unchanged : (n : ℕ) (lent : List Span) (x : Refusal) → listing file msg n lent ≡ Refused x → after file msg n lent ≡ lent
-  -- a refusal's place lies within the message, if it is not one of the sign file
-  pub places : (c : Config) (fs : List SignFont) → signFile file ≡ Accepted c fs → (n : ℕ) (lent : List Span) (x : Refusal)
-      → listing file msg n lent ≡ Refused x → x .start + x .length ≤ length msg
+  pub spans-listed : listed file msg lent 0 N ≡ placed (boardOf msg config fonts) (events config (items msg))
+  pub passes : (r : Rect) (es : List Entry) → In (pass r es) (events config (items msg)) → Stands config fonts msg r es
+  -- and so each record lies inside the text rectangle at its place
+  pub inside : (q : Span) → In q (listed file msg lent 0 N) → Across (rectAtPlace config msg (q .start)) q
+  pub inside-down : (q : Span) → In q (listed file msg lent 0 N) → Divides config fonts → Down (rectAtPlace config msg (q .start)) q

@@ -4,4 +4,5 @@ pub mod Read
 pub mod Place
 pub mod Listing
 pub mod Demand
+pub mod Bounds
 pub mod Boards

@@ -12,7 +12,9 @@ use Rattle.sign.specs.Sign.{Sign, Accepted, RefusedAt, signFile}
 use Rattle.layout.specs.declared.Span.{Span}
 use Rattle.layout.specs.declared.Answer.{Answer}
 use Rattle.layout.specs.declared.Answer.the-variants.{On, Off, End, Refused}
-use Rattle.layout.specs.Types.{Item, items, refusal, Rect, Entry, Board}
+use Rattle.layout.specs.declared.Rect.{Rect}
+use Rattle.layout.specs.declared.Entry.{Entry}
+use Rattle.layout.specs.Types.{Item, items, refusal, Board}
 use Rattle.layout.specs.Fonts.{boardOf}
 use Rattle.layout.specs.Place.{orElse, unless, passFault, passRecords}
 use Rattle.layout.specs.Read.{Event, pass, close, stop, opening, events}
@@ -44,8 +46,8 @@ walk s (pass r es ∷ evs) a b rs n = stopAt (passStop s n r es) (walk s evs a b
 walk s (close p q ∷ evs) a b rs n = on a rs ∷ offs b (walk s evs p q [] 0)
 walk s (stop r ∷ evs) a b rs n = refused r ∷ []
 
-unfoldable pub pages : List ℕ → Board → List Item → List Page
-pages msg s its = walk s (events msg s its) ((opening s its) .on) ((opening s its) .off) [] 0
+unfoldable pub pages : Board → List Item → List Page
+pages s its = walk s (events (s .config) its) ((opening (s .config) its) .on) ((opening (s .config) its) .off) [] 0
 
 -- ---- one call
 
@@ -91,7 +93,7 @@ resultOn (Accepted c fs) msg n room =
     pick (ltb 2048 (length msg)) (refusing 2 0)
     (pick (wellFormed msg)
     (pick (ltb room 1400) (refusing 4 0)
-    (numbered 0 (pages msg (boardOf c fs) (items msg)) n))
+    (numbered 0 (pages (boardOf msg c fs) (items msg)) n))
     (refusing 3 0))
 
 -- the call: sign file, message, answer number from 0, and the records of the lent slice

@@ -7,7 +7,11 @@ use lib.Dec.{leb, ltb, eqb}
 use Rattle.base.specs.Pick.{pick}
 use Rattle.reading.specs.declared.Refusal.{Refusal}
 use Rattle.layout.specs.declared.Span.{Span}
-use Rattle.layout.specs.Types.{refusal, given, Rect, Entry, Meter, Board}
+use Rattle.value.specs.declared.OptNum.{OptNum}
+use Rattle.value.specs.declared.OptNum.the-variants.{Some, None}
+use Rattle.layout.specs.declared.Rect.{Rect}
+use Rattle.layout.specs.declared.Entry.{Entry}
+use Rattle.layout.specs.Types.{refusal, given, Meter, Board}
 use Rattle.layout.specs.Read.{unit}
 
 -- ---- small parts
@@ -47,16 +51,16 @@ select f (e ∷ es) = keep (f e) e (select f es)
 
 -- "Spans of one pass sharing page justification, line and line justification form a group" (`matches_span`)
 abbrev pub same : Entry → Entry → Bool
-same r e = eqb (r .justPage) (e .justPage) && (eqb (r .line) (e .line) && eqb (r .justLine) (e .justLine))
+same r e = eqb (r .state .«just_page») (e .state .«just_page») && (eqb (r .state .line) (e .state .line) && eqb (r .state .«just_line») (e .state .«just_line»))
 
 -- spans whose lines are set together (`matches_line`)
 abbrev pub samePage : Entry → Entry → Bool
-samePage r e = eqb (r .justPage) (e .justPage)
+samePage r e = eqb (r .state .«just_page») (e .state .«just_page»)
 
 -- "The spacing due before a span that isn't its group's first is its own [sc] value if one holds, otherwise half the sum of the spacings of the
 -- span before it and its own, rounded up" (`char_spacing_between`)
 unfoldable pub due : Meter → Entry → Entry → ℕ
-due m p e = given (e .charSpacing) (halfUp (m .spacing p + m .spacing e))
+due m p e = given (e .state .«char_spacing») (halfUp (m .spacing p + m .spacing e))
 
 abbrev pub gap : Meter → Option Entry → Entry → ℕ
 gap m none e = 0
@@ -65,11 +69,11 @@ gap m (some p) e = due m p e
 -- `offset_horiz`: of a group, with the span before it, what stands before span number n, and what from there on
 abbrev pub before : Meter → ℕ → Option Entry → List Entry → ℕ
 before m n p [] = 0
-before m n p (e ∷ es) = pick (leb (e .span) n) (gap m p e) 0 + (pick (ltb (e .span) n) (m .width e) 0 + before m n (some e) es)
+before m n p (e ∷ es) = pick (leb (e .state .span) n) (gap m p e) 0 + (pick (ltb (e .state .span) n) (m .width e) 0 + before m n (some e) es)
 
 abbrev pub after : Meter → ℕ → Option Entry → List Entry → ℕ
 after m n p [] = 0
-after m n p (e ∷ es) = pick (leb (e .span) n) 0 (gap m p e) + (pick (ltb (e .span) n) 0 (m .width e) + after m n (some e) es)
+after m n p (e ∷ es) = pick (leb (e .state .span) n) 0 (gap m p e) + (pick (ltb (e .state .span) n) 0 (m .width e) + after m n (some e) es)
 
 -- `span_x`: 2 left, 3 centre, 4 right
 abbrev pub placeX : ℕ → ℕ → Rect → ℕ → ℕ → ℕ
@@ -84,10 +88,15 @@ placeX j cw r b a =
 pub record Line : Type 0 where
   pub height : ℕ
   pub fontSpacing : ℕ
-  pub lineSpacing : Option ℕ
+  pub lineSpacing : OptNum
+
+-- the first of two options that is there
+abbrev pub firstOf : OptNum → OptNum → OptNum
+firstOf None b = b
+firstOf (Some n) b = Some n
 
 abbrev pub combine : Line → Line → Line
-combine a b = record { height = max (a .height) (b .height); fontSpacing = max (a .fontSpacing) (b .fontSpacing); lineSpacing = orElse (a .lineSpacing) (b .lineSpacing) }
+combine a b = record { height = max (a .height) (b .height); fontSpacing = max (a .fontSpacing) (b .fontSpacing); lineSpacing = firstOf (a .lineSpacing) (b .lineSpacing) }
 
 -- "a span whose line number is at or past its length adds a new line"; otherwise it combines with the line of its number
 abbrev pub addLine : ℕ → Line → List Line → List Line
@@ -96,11 +105,11 @@ addLine zero l (a ∷ ls) = combine a l ∷ ls
 addLine (suc n) l (a ∷ ls) = a ∷ addLine n l ls
 
 abbrev pub lineOf : Meter → Entry → Line
-lineOf m e = record { height = m .height e; fontSpacing = m .lineSpacing e; lineSpacing = e .lineSpacing }
+lineOf m e = record { height = m .height e; fontSpacing = m .lineSpacing e; lineSpacing = e .state .«line_spacing» }
 
 abbrev pub lines : Meter → List Line → List Entry → List Line
 lines m ls [] = ls
-lines m ls (e ∷ es) = lines m (addLine (e .line) (lineOf m e) ls) es
+lines m ls (e ∷ es) = lines m (addLine (e .state .line) (lineOf m e) ls) es
 
 -- the spacing above a line: none on a sign with a character height
 unfoldable pub lineGap : ℕ → Line → Line → ℕ
@@ -143,25 +152,25 @@ module _ (s : Board) (r : Rect) (es : List Entry) where
   page e = select (samePage e) es
 
   unfoldable pub beforeOf : Entry → ℕ
-  beforeOf e = before (s .meter) (e .span) none (group e)
+  beforeOf e = before (s .meter) (e .state .span) none (group e)
 
   unfoldable pub afterOf : Entry → ℕ
-  afterOf e = after (s .meter) (e .span) none (group e)
+  afterOf e = after (s .meter) (e .state .span) none (group e)
 
   unfoldable pub linesOf : Entry → List Line
   linesOf e = lines (s .meter) [] (page e)
 
   unfoldable pub aboveOf : Entry → ℕ
-  aboveOf e = above (s .charHeight) (e .line) none (linesOf e)
+  aboveOf e = above (s .config .«char_height») (e .state .line) none (linesOf e)
 
   unfoldable pub belowOf : Entry → ℕ
-  belowOf e = below (s .charHeight) (e .line) none (linesOf e)
+  belowOf e = below (s .config .«char_height») (e .state .line) none (linesOf e)
 
   unfoldable pub xOf : Entry → ℕ
-  xOf e = placeX (e .justLine) (s .charWidth) r (beforeOf e) (afterOf e)
+  xOf e = placeX (e .state .«just_line») (s .config .«char_width») r (beforeOf e) (afterOf e)
 
   unfoldable pub baseOf : Entry → ℕ
-  baseOf e = baseline (e .justPage) (s .charHeight) r (aboveOf e) (belowOf e)
+  baseOf e = baseline (e .state .«just_page») (s .config .«char_height») r (aboveOf e) (belowOf e)
 
   -- "A record holds kind, start and length in message bytes, character code, x, y from 0, width, height, font, line, span number, rectangle"
   unfoldable pub recordOf : Entry → Span
@@ -175,9 +184,9 @@ module _ (s : Board) (r : Rect) (es : List Entry) where
         y = baseOf e - s .meter .height e;
         width = s .meter .width e;
         height = s .meter .height e;
-        font = e .font;
-        line = e .line;
-        span = e .span;
+        font = e .state .font;
+        line = e .state .line;
+        span = e .state .span;
         «rect_x» = suc (r .left);
         «rect_y» = suc (r .top);
         «rect_width» = r .width;
@@ -204,7 +213,7 @@ module _ (s : Board) (r : Rect) (es : List Entry) where
 
 -- `check_justification`: "a span's justification goes back", compared with the span just before
 abbrev pub goesBack : Entry → Entry → Bool
-goesBack p e = ltb (e .justPage) (p .justPage) || (eqb (e .justPage) (p .justPage) && (eqb (e .line) (p .line) && ltb (e .justLine) (p .justLine)))
+goesBack p e = ltb (e .state .«just_page») (p .state .«just_page») || (eqb (e .state .«just_page») (p .state .«just_page») && (eqb (e .state .line) (p .state .line) && ltb (e .state .«just_line») (p .state .«just_line»)))
 
 abbrev pub backFault : Option Entry → List Entry → Option Refusal
 backFault p [] = none

@@ -4,9 +4,7 @@ use mathlib.Core.Bool.{Bool, true, false, _&&_}
 use mathlib.Core.Option.{Option, none, some}
 use mathlib.Core.List.{List, [], _∷_, _++_}
 use lib.Dec.{leb, ltb, eqb}
-use lib.ListN.{take, drop}
 use Rattle.base.specs.Pick.{pick}
-use Rattle.utf8.specs.Utf8.{codes}
 use Rattle.value.specs.declared.OptFont.{OptFont}
 use Rattle.value.specs.declared.OptFont.the-variants.{Some as SomeFont, None as NoFont}
 use Rattle.value.specs.declared.Rectangle.{Rectangle}
@@ -16,7 +14,15 @@ use Rattle.value.specs.Tag.{tagOf, hasTag}
 use Rattle.reading.specs.declared.Item.{Item as Said}
 use Rattle.reading.specs.declared.Item.the-variants.{Is, Fails}
 use Rattle.reading.specs.declared.Refusal.{Refusal}
-use Rattle.layout.specs.Types.{Item, refusal, opt, given, Rect, State, Entry, Board}
+use Rattle.value.specs.declared.OptNum.{OptNum}
+use Rattle.value.specs.declared.OptNum.the-variants.{Some, None}
+use Rattle.records.specs.declared.Config.{Config}
+use Rattle.layout.specs.declared.Rect.{Rect}
+use Rattle.layout.specs.declared.RenderState.{RenderState}
+use Rattle.layout.specs.declared.Entry.{Entry}
+use Rattle.layout.specs.declared.Step.{Step}
+use Rattle.layout.specs.declared.Step.the-variants.{Refuse, Go, Emit, Cut, Turn}
+use Rattle.layout.specs.Types.{Item, refusal, given}
 
 -- ---- a page's scan
 
@@ -28,7 +34,7 @@ refusalAt it n = refusal n (it .start) (it .len) 0
 pub data Mark : Type 0 where
   plain : Mark
   ends : Mark
-  timed : Option ℕ → Option ℕ → Mark
+  timed : OptNum → OptNum → Mark
   fails : ℕ → Mark
 
 -- a tag needs its name's bit in the sign's tags: 5, "a tag this sign doesn't support; field 0 counts as unsupported", having no bit
@@ -54,7 +60,7 @@ markOf tags (MovingText m d t) = tagged tags (MovingText m d t) plain
 markOf tags (NewLine s) = tagged tags (NewLine s) plain
 markOf tags NewPage = tagged tags NewPage ends
 markOf tags (PageBackground c) = tagged tags (PageBackground c) plain
-markOf tags (PageTime on off) = tagged tags (PageTime on off) (timed (opt on) (opt off))
+markOf tags (PageTime on off) = tagged tags (PageTime on off) (timed on off)
 markOf tags (SpacingCharacter s) = tagged tags (SpacingCharacter s) plain
 markOf tags SpacingCharacterEnd = tagged tags SpacingCharacterEnd plain
 markOf tags (Text p) = plain
@@ -72,85 +78,62 @@ pub record Scan : Type 0 where
   pub fault : Option Refusal
 
 -- "Page times are the last [pt] before [np], a missing part taking the sign's default; without a [pt] they carry over from the page before"
-abbrev pub scanBy : Board → ℕ → ℕ → Item → Mark → (ℕ → ℕ → Scan) → Scan
+abbrev pub scanBy : Config → ℕ → ℕ → Item → Mark → (ℕ → ℕ → Scan) → Scan
 scanBy s a b it plain next = next a b
 scanBy s a b it ends next = record { on = a; off = b; fault = none }
-scanBy s a b it (timed p q) next = next (given p (s .onTime)) (given q (s .offTime))
+scanBy s a b it (timed p q) next = next (given p (s .«on_time»)) (given q (s .«off_time»))
 scanBy s a b it (fails n) next = record { on = a; off = b; fault = some (refusalAt it n) }
 
-abbrev pub scan : Board → ℕ → ℕ → List Item → Scan
+abbrev pub scan : Config → ℕ → ℕ → List Item → Scan
 scan s a b [] = record { on = a; off = b; fault = none }
 scan s a b (it ∷ its) = scanBy s a b it (markItem (s .tags) (it .says)) (λ p q. scan s p q its)
 
 -- ---- one item of a pass
 
--- what an item does: a refusal; the next state and whether the line is still blank; a span with them; [tr], which ends the pass; [np]
-pub data Step : Type 0 where
-  refuse : Refusal → Step
-  go : State → Bool → Step
-  emit : Entry → State → Bool → Step
-  cut : State → Step
-  turn : Step
+-- a span: its kind, place and code, in the state
+abbrev pub entryOf : ℕ → ℕ → ℕ → ℕ → RenderState → Entry
+entryOf kind start len code st = record { kind = kind; start = start; len = len; code = code; state = st }
 
--- a span: its kind, place, code and code points, in the state
-abbrev pub entryOf : ℕ → ℕ → ℕ → ℕ → List ℕ → State → Entry
-entryOf kind start len code chars st =
-    record {
-      kind = kind;
-      start = start;
-      len = len;
-      code = code;
-      chars = chars;
-      justPage = st .justPage;
-      justLine = st .justLine;
-      font = st .font;
-      version = st .version;
-      lineSpacing = st .lineSpacing;
-      charSpacing = st .charSpacing;
-      line = st .line;
-      span = st .span;
-    }
-
-abbrev pub withSpan : State → ℕ → State
-withSpan st n = record { rect = st .rect; justPage = st .justPage; justLine = st .justLine; font = st .font; version = st .version; lineSpacing = st .lineSpacing; charSpacing = st .charSpacing; line = st .line; span = n }
+abbrev pub withSpan : RenderState → ℕ → RenderState
+withSpan st n = record { rect = st .rect; «just_page» = st .«just_page»; «just_line» = st .«just_line»; font = st .font; version = st .version; «line_spacing» = st .«line_spacing»; «char_spacing» = st .«char_spacing»; line = st .line; span = n }
 
 -- "A [jl] always restarts the span number"
-abbrev pub withJustLine : State → ℕ → State
-withJustLine st j = record { rect = st .rect; justPage = st .justPage; justLine = j; font = st .font; version = st .version; lineSpacing = st .lineSpacing; charSpacing = st .charSpacing; line = st .line; span = 0 }
+abbrev pub withJustLine : RenderState → ℕ → RenderState
+withJustLine st j = record { rect = st .rect; «just_page» = st .«just_page»; «just_line» = j; font = st .font; version = st .version; «line_spacing» = st .«line_spacing»; «char_spacing» = st .«char_spacing»; line = st .line; span = 0 }
 
 -- "a [jp] restarts line and span numbers only if it changes the justification"
-abbrev pub withJustPage : State → ℕ → State
-withJustPage st j = record { rect = st .rect; justPage = j; justLine = st .justLine; font = st .font; version = st .version; lineSpacing = st .lineSpacing; charSpacing = st .charSpacing; line = pick (eqb j (st .justPage)) (st .line) 0; span = pick (eqb j (st .justPage)) (st .span) 0 }
+abbrev pub withJustPage : RenderState → ℕ → RenderState
+withJustPage st j = record { rect = st .rect; «just_page» = j; «just_line» = st .«just_line»; font = st .font; version = st .version; «line_spacing» = st .«line_spacing»; «char_spacing» = st .«char_spacing»; line = pick (eqb j (st .«just_page»)) (st .line) 0; span = pick (eqb j (st .«just_page»)) (st .span) 0 }
 
 -- [nl]: the next line, with the spacing above it
-abbrev pub withLine : State → Option ℕ → State
-withLine st ls = record { rect = st .rect; justPage = st .justPage; justLine = st .justLine; font = st .font; version = st .version; lineSpacing = ls; charSpacing = st .charSpacing; line = suc (st .line); span = 0 }
+abbrev pub withLine : RenderState → OptNum → RenderState
+withLine st ls = record { rect = st .rect; «just_page» = st .«just_page»; «just_line» = st .«just_line»; font = st .font; version = st .version; «line_spacing» = ls; «char_spacing» = st .«char_spacing»; line = suc (st .line); span = 0 }
 
-abbrev pub withCharSpacing : State → Option ℕ → State
-withCharSpacing st cs = record { rect = st .rect; justPage = st .justPage; justLine = st .justLine; font = st .font; version = st .version; lineSpacing = st .lineSpacing; charSpacing = cs; line = st .line; span = st .span }
+abbrev pub withCharSpacing : RenderState → OptNum → RenderState
+withCharSpacing st cs = record { rect = st .rect; «just_page» = st .«just_page»; «just_line» = st .«just_line»; font = st .font; version = st .version; «line_spacing» = st .«line_spacing»; «char_spacing» = cs; line = st .line; span = st .span }
 
-abbrev pub withFont : State → ℕ → Option ℕ → State
-withFont st f v = record { rect = st .rect; justPage = st .justPage; justLine = st .justLine; font = f; version = v; lineSpacing = st .lineSpacing; charSpacing = st .charSpacing; line = st .line; span = st .span }
+abbrev pub withFont : RenderState → ℕ → OptNum → RenderState
+withFont st f v = record { rect = st .rect; «just_page» = st .«just_page»; «just_line» = st .«just_line»; font = f; version = v; «line_spacing» = st .«line_spacing»; «char_spacing» = st .«char_spacing»; line = st .line; span = st .span }
 
 -- [tr]: a new rectangle restarts line and span numbers
-abbrev pub withRect : State → Rect → State
-withRect st r = record { rect = r; justPage = st .justPage; justLine = st .justLine; font = st .font; version = st .version; lineSpacing = st .lineSpacing; charSpacing = st .charSpacing; line = 0; span = 0 }
+abbrev pub withRect : RenderState → Rect → RenderState
+withRect st r = record { rect = r; «just_page» = st .«just_page»; «just_line» = st .«just_line»; font = st .font; version = st .version; «line_spacing» = st .«line_spacing»; «char_spacing» = st .«char_spacing»; line = 0; span = 0 }
 
 -- [fo] without a number: the sign's font, and no version id
-abbrev pub fontStep : Board → State → OptFont → State
-fontStep s st (SomeFont n v) = withFont st n (opt v)
-fontStep s st NoFont = withFont st (s .font) none
+abbrev pub fontStep : Config → RenderState → OptFont → RenderState
+fontStep s st (SomeFont n v) = withFont st n v
+fontStep s st NoFont = withFont st (s .font) None
 
 -- 8: "The 256th .. span since its number restarted"; "a text or [hc] ends the blank"
-abbrev pub spanStep : Item → State → Entry → Step
-spanStep it st e = pick (ltb (st .span) 255) (emit e (withSpan st (suc (st .span))) false) (refuse (refusalAt it 8))
+abbrev pub spanStep : Item → RenderState → Entry → Step
+spanStep it st e = pick (ltb (st .span) 255) (Emit e (withSpan st (suc (st .span))) false) (Refuse (refusalAt it 8))
 
 -- "a zero size reaching to the sign's edge"
 abbrev pub extent : ℕ → ℕ → ℕ → ℕ
 extent zero from all = all - from
 extent (suc n) from all = suc n
 
-abbrev pub rectOf : Board → Rectangle → Rect
+abbrev pub rectOf : Config → Rectangle → Rect
 rectOf s r = record { left = r .x - 1; top = r .y - 1; width = extent (r .width) (r .x - 1) (s .width); height = extent (r .height) (r .y - 1) (s .height) }
 
 -- a size of 0 stands for 1
@@ -162,64 +145,79 @@ abbrev pub fits : ℕ → ℕ → ℕ → ℕ → Bool
 fits from size all u = ltb 0 size && (leb (from + size) all && (eqb (from % unit u) 0 && eqb (size % unit u) 0))
 
 -- `update_text_rectangle`
-abbrev pub rectFits : Board → Rect → Bool
-rectFits s r = fits (r .left) (r .width) (s .width) (s .charWidth) && fits (r .top) (r .height) (s .height) (s .charHeight)
+abbrev pub rectFits : Config → Rect → Bool
+rectFits s r = fits (r .left) (r .width) (s .width) (s .«char_width») && fits (r .top) (r .height) (s .height) (s .«char_height»)
 
 -- the justification in force after [jl] or [jp]: none is the sign's; 2 to 4 are taken
-abbrev pub justified : Option ℕ → ℕ → Option ℕ
-justified none d = some d
-justified (some n) d = pick (leb 2 n && leb n 4) (some n) none
+abbrev pub justified : OptNum → ℕ → OptNum
+justified None d = Some d
+justified (Some n) d = pick (leb 2 n) (pick (leb n 4) (Some n) None) None
 
-abbrev pub goIf : Item → Option ℕ → (ℕ → State) → Bool → Step
-goIf it none f blank = refuse (refusalAt it 6)
-goIf it (some n) f blank = go (f n) blank
+abbrev pub goIf : Item → OptNum → (ℕ → RenderState) → Bool → Step
+goIf it None f blank = Refuse (refusalAt it 6)
+goIf it (Some n) f blank = Go (f n) blank
 
 -- "[nl] on a still blank line lists an empty span": kind 2, which "starts at its [nl], length 0"
-abbrev pub lineStep : Item → State → Option ℕ → Bool → Step
-lineStep it st ls true = emit (entryOf 2 (it .start) 0 0 [] st) (withLine st ls) true
-lineStep it st ls false = go (withLine st ls) true
+abbrev pub lineStep : Item → RenderState → OptNum → Bool → Step
+lineStep it st ls true = Emit (entryOf 2 (it .start) 0 0 st) (withLine st ls) true
+lineStep it st ls false = Go (withLine st ls) true
 
--- the bytes of a text of the message
-abbrev pub textAt : List ℕ → ℕ → ℕ → List ℕ
-textAt msg start n = take n (drop start msg)
+-- D800 to DFFF hexadecimal
+abbrev pub surrogate : ℕ → Bool
+surrogate c = leb 55296 c && leb c 57343
+
+abbrev pub hexStep : Item → RenderState → ℕ → Step
+hexStep it st c = pick (surrogate c) (Refuse (refusalAt it 6)) (spanStep it st (entryOf 1 (it .start) (it .len) c st))
+
+-- both above 0
+abbrev pub above0 : ℕ → ℕ → Bool
+above0 a b = ltb 0 a && ltb 0 b
+
+-- 8: "The 256th line end .. since its number restarted"
+abbrev pub newLineStep : Config → RenderState → Bool → Item → OptNum → Step
+newLineStep s st blank it ls =
+    pick (above0 (s .«char_height») (given ls 0)) (Refuse (refusalAt it 6))
+    (pick (ltb (st .line) 255) (lineStep it st ls blank) (Refuse (refusalAt it 8)))
+
+abbrev pub spacingStep : Config → RenderState → Bool → Item → ℕ → Step
+spacingStep s st blank it n = pick (above0 (s .«char_width») n) (Refuse (refusalAt it 6)) (Go (withCharSpacing st (Some n)) blank)
+
+abbrev pub rectStep : Config → RenderState → Item → Rectangle → Step
+rectStep s st it r = pick (rectFits s (rectOf s r)) (Cut (withRect st (rectOf s r))) (Refuse (refusalAt it 6))
 
 -- `render_text_rectangle`: 6 for "[jl1], [jl5], [jp1], [nl] above 0 where character height is above 0, [sc] above 0 where character width is,
 -- [hc] D800 to DFFF hexadecimal, or a [tr] not inside the sign or off its character grid"; 8 for the 256th line end or span
-abbrev pub valueStep : List ℕ → Board → State → Bool → Item → Value → Step
-valueStep msg s st blank it (ColorBackground c) = go st blank
-valueStep msg s st blank it (ColorForeground c) = go st blank
-valueStep msg s st blank it (ColorRectangle r c) = go st blank
-valueStep msg s st blank it (Field n w) = go st blank
-valueStep msg s st blank it (Flash o a b) = go st blank
-valueStep msg s st blank it FlashEnd = go st blank
-valueStep msg s st blank it (Font f) = go (fontStep s st f) blank
-valueStep msg s st blank it (Graphic n p) = go st blank
-valueStep msg s st blank it (HexadecimalCharacter c) =
-    pick (leb 55296 c && leb c 57343) (refuse (refusalAt it 6)) (spanStep it st (entryOf 1 (it .start) (it .len) c (c ∷ []) st))
-valueStep msg s st blank it (JustificationLine j) = goIf it (justified (opt j) (s .justLine)) (withJustLine st) blank
-valueStep msg s st blank it (JustificationPage j) = goIf it (justified (opt j) (s .justPage)) (withJustPage st) blank
-valueStep msg s st blank it (ManufacturerSpecific m p) = go st blank
-valueStep msg s st blank it (ManufacturerSpecificEnd m p) = go st blank
-valueStep msg s st blank it (MovingText m d t) = go st blank
-valueStep msg s st blank it (NewLine ls) =
-    pick (ltb 0 (s .charHeight) && ltb 0 (given (opt ls) 0)) (refuse (refusalAt it 6))
-    (pick (ltb (st .line) 255) (lineStep it st (opt ls) blank) (refuse (refusalAt it 8)))
-valueStep msg s st blank it NewPage = turn
-valueStep msg s st blank it (PageBackground c) = go st blank
-valueStep msg s st blank it (PageTime a b) = go st blank
-valueStep msg s st blank it (SpacingCharacter c) =
-    pick (ltb 0 (s .charWidth) && ltb 0 c) (refuse (refusalAt it 6)) (go (withCharSpacing st (some c)) blank)
-valueStep msg s st blank it SpacingCharacterEnd = go (withCharSpacing st none) blank
-valueStep msg s st blank it (Text p) = spanStep it st (entryOf 0 (p .start) (p .len) 0 (codes (textAt msg (p .start) (p .len))) st)
-valueStep msg s st blank it (TextRectangle r) = pick (rectFits s (rectOf s r)) (cut (withRect st (rectOf s r))) (refuse (refusalAt it 6))
+abbrev pub valueStep : Config → RenderState → Bool → Item → Value → Step
+valueStep s st blank it (ColorBackground c) = Go st blank
+valueStep s st blank it (ColorForeground c) = Go st blank
+valueStep s st blank it (ColorRectangle r c) = Go st blank
+valueStep s st blank it (Field n w) = Go st blank
+valueStep s st blank it (Flash o a b) = Go st blank
+valueStep s st blank it FlashEnd = Go st blank
+valueStep s st blank it (Font f) = Go (fontStep s st f) blank
+valueStep s st blank it (Graphic n p) = Go st blank
+valueStep s st blank it (HexadecimalCharacter c) = hexStep it st c
+valueStep s st blank it (JustificationLine j) = goIf it (justified j (s .«line_just»)) (withJustLine st) blank
+valueStep s st blank it (JustificationPage j) = goIf it (justified j (s .«page_just»)) (withJustPage st) blank
+valueStep s st blank it (ManufacturerSpecific m p) = Go st blank
+valueStep s st blank it (ManufacturerSpecificEnd m p) = Go st blank
+valueStep s st blank it (MovingText m d t) = Go st blank
+valueStep s st blank it (NewLine ls) = newLineStep s st blank it ls
+valueStep s st blank it NewPage = Turn
+valueStep s st blank it (PageBackground c) = Go st blank
+valueStep s st blank it (PageTime a b) = Go st blank
+valueStep s st blank it (SpacingCharacter n) = spacingStep s st blank it n
+valueStep s st blank it SpacingCharacterEnd = Go (withCharSpacing st None) blank
+valueStep s st blank it (Text p) = spanStep it st (entryOf 0 (p .start) (p .len) 0 st)
+valueStep s st blank it (TextRectangle r) = rectStep s st it r
 
 -- an item that fails was refused by the page's scan
-abbrev pub itemStep : List ℕ → Board → State → Bool → Item → Said → Step
-itemStep msg s st blank it (Is v) = valueStep msg s st blank it v
-itemStep msg s st blank it (Fails n) = refuse (refusalAt it n)
+abbrev pub itemStep : Config → RenderState → Bool → Item → Said → Step
+itemStep s st blank it (Is v) = valueStep s st blank it v
+itemStep s st blank it (Fails n) = Refuse (refusalAt it n)
 
-unfoldable pub step : List ℕ → Board → State → Bool → Item → Step
-step msg s st blank it = itemStep msg s st blank it (it .says)
+unfoldable pub step : Config → RenderState → Bool → Item → Step
+step s st blank it = itemStep s st blank it (it .says)
 
 -- ---- a message
 
@@ -234,34 +232,34 @@ stopIf none l = l
 stopIf (some r) l = stop r ∷ []
 
 -- the whole sign
-abbrev pub whole : Board → Rect
+abbrev pub whole : Config → Rect
 whole s = record { left = 0; top = 0; width = s .width; height = s .height }
 
 -- "Line spacing and text rectangle restart with each page; font, character spacing and justification carry on"
-abbrev pub newPage : Board → State → State
-newPage s st = record { rect = whole s; justPage = st .justPage; justLine = st .justLine; font = st .font; version = st .version; lineSpacing = none; charSpacing = st .charSpacing; line = 0; span = 0 }
+abbrev pub newPage : Config → RenderState → RenderState
+newPage s st = record { rect = whole s; «just_page» = st .«just_page»; «just_line» = st .«just_line»; font = st .font; version = st .version; «line_spacing» = None; «char_spacing» = st .«char_spacing»; line = 0; span = 0 }
 
 -- the state at the message's start: the sign's defaults
-abbrev pub start : Board → State
-start s = record { rect = whole s; justPage = s .justPage; justLine = s .justLine; font = s .font; version = none; lineSpacing = none; charSpacing = none; line = 0; span = 0 }
+abbrev pub start : Config → RenderState
+start s = record { rect = whole s; «just_page» = s .«page_just»; «just_line» = s .«line_just»; font = s .font; version = None; «line_spacing» = None; «char_spacing» = None; line = 0; span = 0 }
 
 -- "A pass ends at [tr], [np] or the end"; "Each pass starts with a blank line". acc: the spans of the pass so far; next reads the rest
-abbrev pub follow : Board → ℕ → ℕ → State → List Entry → List Item → (ℕ → ℕ → State → Bool → List Entry → List Event) → Step → List Event
-follow s a b st acc its next (refuse r) = stop r ∷ []
-follow s a b st acc its next (go st′ blank) = next a b st′ blank acc
-follow s a b st acc its next (emit e st′ blank) = next a b st′ blank (acc ++ (e ∷ []))
-follow s a b st acc its next (cut st′) = pass (st .rect) acc ∷ next a b st′ true []
-follow s a b st acc its next turn =
+abbrev pub follow : Config → ℕ → ℕ → RenderState → List Entry → List Item → (ℕ → ℕ → RenderState → Bool → List Entry → List Event) → Step → List Event
+follow s a b st acc its next (Refuse r) = stop r ∷ []
+follow s a b st acc its next (Go st′ blank) = next a b st′ blank acc
+follow s a b st acc its next (Emit e st′ blank) = next a b st′ blank (acc ++ (e ∷ []))
+follow s a b st acc its next (Cut st′) = pass (st .rect) acc ∷ next a b st′ true []
+follow s a b st acc its next Turn =
     let c : Scan = scan s a b its in
     pass (st .rect) acc ∷ close (c .on) (c .off) ∷ stopIf (c .fault) (next (c .on) (c .off) (newPage s st) true [])
 
-abbrev pub read : List ℕ → Board → List Item → ℕ → ℕ → State → Bool → List Entry → List Event
-read msg s [] a b st blank acc = pass (st .rect) acc ∷ []
-read msg s (it ∷ its) a b st blank acc = follow s a b st acc its (read msg s its) (step msg s st blank it)
+abbrev pub read : Config → List Item → ℕ → ℕ → RenderState → Bool → List Entry → List Event
+read s [] a b st blank acc = pass (st .rect) acc ∷ []
+read s (it ∷ its) a b st blank acc = follow s a b st acc its (read s its) (step s st blank it)
 
 -- the first page's scan
-unfoldable pub opening : Board → List Item → Scan
-opening s its = scan s (s .onTime) (s .offTime) its
+unfoldable pub opening : Config → List Item → Scan
+opening s its = scan s (s .«on_time») (s .«off_time») its
 
-unfoldable pub events : List ℕ → Board → List Item → List Event
-events msg s its = stopIf ((opening s its) .fault) (read msg s its ((opening s its) .on) ((opening s its) .off) (start s) true [])
+unfoldable pub events : Config → List Item → List Event
+events s its = stopIf ((opening s its) .fault) (read s its ((opening s its) .on) ((opening s its) .off) (start s) true [])

@@ -14,7 +14,7 @@ use Rattle.font.specs.Character.{lookup, characterIn}
 use Rattle.font.specs.declared.Found.{Found}
 use Rattle.font.specs.declared.Found.the-variants.{Is, Missing as Absent}
 use Rattle.measure.specs.Measure.{widened, after, widthAfter, textWidth}
-use Rattle.measure.specs.Widths.{given, entryWidth, characterWidth, widthFrom, missing, charFault, judged}
+use Rattle.measure.specs.Widths.{widthOr0, entryWidth, characterWidth, widthFrom, missing, charFault, judged}
 use Rattle.measure.specs.declared.Measure.the-variants.{Width, Missing}
 
 -- a character's width alone
@@ -46,7 +46,7 @@ module _ (chs : List Character) (spacing : ℕ) where
   width-judged w [] = refl
   width-judged w (c ∷ l) = go (characterIn c chs) (characterWidth c chs) (seen-width c chs) (λ v. width-judged v l)
     where
-      go : (f : Found) (o : Option ℕ) → o ≡ seen f → ((v : ℕ) → widthAfter chs spacing v l ≡ judged (charFault chs l) (widthFrom chs spacing v l)) → after f c (λ more. widthAfter chs spacing (w + (pick (ltb 0 w) spacing 0 + more)) l) ≡ judged (missing o c (charFault chs l)) (widthFrom chs spacing (w + (pick (ltb 0 w) spacing 0 + given o 0)) l)
+      go : (f : Found) (o : Option ℕ) → o ≡ seen f → ((v : ℕ) → widthAfter chs spacing v l ≡ judged (charFault chs l) (widthFrom chs spacing v l)) → after f c (λ more. widthAfter chs spacing (w + (pick (ltb 0 w) spacing 0 + more)) l) ≡ judged (missing o c (charFault chs l)) (widthFrom chs spacing (w + (pick (ltb 0 w) spacing 0 + widthOr0 o)) l)
       go (Is more bitmap) o e k = rw e (k (w + (pick (ltb 0 w) spacing 0 + more)))
       go Absent o e k = rw e
 
@@ -99,13 +99,13 @@ module _ (chs : List Character) (spacing : ℕ) where
   pub width-grows : (w : ℕ) (l : List ℕ) → w ≤ widthFrom chs spacing w l
   width-grows w [] = le-refl w
   width-grows w (c ∷ l) =
-      let v = w + (pick (ltb 0 w) spacing 0 + given (characterWidth c chs) 0) in
+      let v = w + (pick (ltb 0 w) spacing 0 + widthOr0 (characterWidth c chs)) in
       let h : v ≤ widthFrom chs spacing v l = width-grows v l in
       omega arith
 
   width-join : (w : ℕ) (l k : List ℕ) → widthFrom chs spacing w (l ++ k) ≡ widthFrom chs spacing (widthFrom chs spacing w l) k
   width-join w [] k = refl
-  width-join w (c ∷ l) k = width-join (w + (pick (ltb 0 w) spacing 0 + given (characterWidth c chs) 0)) l k
+  width-join w (c ∷ l) k = width-join (w + (pick (ltb 0 w) spacing 0 + widthOr0 (characterWidth c chs))) l k
 
   pub width-monotone : (l k : List ℕ) → widthFrom chs spacing 0 l ≤ widthFrom chs spacing 0 (l ++ k)
   width-monotone l k = rw (width-join 0 l k) (width-grows (widthFrom chs spacing 0 l) k)

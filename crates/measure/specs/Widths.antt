@@ -8,9 +8,10 @@ use Rattle.sign.specs.Sign.{Character}
 use Rattle.measure.specs.declared.Measure.{Measure}
 use Rattle.measure.specs.declared.Measure.the-variants.{Width, Missing}
 
-abbrev pub given : Option ℕ → ℕ → ℕ
-given none d = d
-given (some n) d = n
+-- the width of a character, 0 where it is missing
+abbrev pub widthOr0 : Option ℕ → ℕ
+widthOr0 none = 0
+widthOr0 (some w) = w
 
 -- `Font::character`: the width of the font's entry whose number is the code
 abbrev pub entryWidth : ℕ → List Character → Option ℕ
@@ -21,10 +22,10 @@ entryWidth c (ch ∷ chs) = pick (eqb (ch .number) c) (some (ch .width)) (entryW
 abbrev pub characterWidth : ℕ → List Character → Option ℕ
 characterWidth c chs = pick (eqb c 0) (some 0) (entryWidth c chs)
 
--- `text_width`, from a width so far; a missing character has width 0
+-- `text_width`, from a width so far: "spacing is added before a character only if the width so far is above 0"
 abbrev pub widthFrom : List Character → ℕ → ℕ → List ℕ → ℕ
 widthFrom chs cs w [] = w
-widthFrom chs cs w (c ∷ l) = widthFrom chs cs (w + (pick (ltb 0 w) cs 0 + given (characterWidth c chs) 0)) l
+widthFrom chs cs w (c ∷ l) = widthFrom chs cs (w + (pick (ltb 0 w) cs 0 + widthOr0 (characterWidth c chs))) l
 
 -- 12: "Character not defined; detail its code", the first of a text
 abbrev pub missing : Option ℕ → ℕ → Option (ℕ × ℕ) → Option (ℕ × ℕ)

@@ -1,0 +1,17 @@
+use Rattle.render.proofs.Laws.{step-ways}
+use Rattle.base.specs.Pick.{picks, answers}
+use borrow.Author.Needs.{needs}
+use Rattle.render.proofs.new_line_step.Statement.{statement}
+use Rattle.render.proofs.new_line_step.Tie as tie
+
+pub new-line-step-spec : {M : Type 1} → statement M
+new-line-step-spec =
+    tie.close (tie.spec
+    (λ c κs. search needs)  -- given-requires
+    (λ c κs. search needs)  -- both-above-requires
+    (λ c κs. search needs)  -- refuse-requires
+    (λ c. rw (← c .before .before .before .given .ensures) (search (step-ways, picks, answers, needs) depth 8))  -- returns
+    (λ c κs. search needs)  -- line-step-requires
+    (λ c. rw (← c .before .before .before .before .before .given .ensures) (search (step-ways, picks, answers, needs) depth 8))  -- returns-2
+    (λ c κs. search needs)  -- refuse-requires-2
+    (λ c. rw (← c .before .before .before .before .before .given .ensures) (search (step-ways, picks, answers, needs) depth 8)))  -- returns-3
