@@ -16,12 +16,14 @@ use Rattle.layout.specs.declared.Answer.the-variants.{On, Off, End, Refu
 use Rattle.layout.specs.declared.Rect.{Rect}
 use Rattle.layout.specs.declared.RenderState.{RenderState}
 use Rattle.layout.specs.declared.Entry.{Entry}
+use Rattle.layout.specs.declared.Mark.{Mark}
+use Rattle.layout.specs.declared.Mark.the-variants.{Plain, Ends, Timed, Wrong}
 use Rattle.layout.specs.Types.{Item, items, refusal, Board}
 use Rattle.layout.specs.Fonts.{boardOf}
 use Rattle.layout.specs.Place.{orElse, unless, firstFault, faultAt, spanFault, goesBack, backFault, passFault, passRecords}
 use Rattle.layout.specs.declared.Step.{Step}
 use Rattle.layout.specs.declared.Step.the-variants.{Refuse, Go, Emit, Cut, Turn}
-use Rattle.layout.specs.Read.{Mark, plain, ends, timed, fails, markItem, scanBy, step, Scan, scan, Event, pass, close, stop, stopIf, newPage, start, follow, read, opening, events}
+use Rattle.layout.specs.Read.{markItem, scanBy, step, Scan, scan, Event, pass, close, stop, stopIf, newPage, start, follow, read, opening, events}
 use Rattle.layout.specs.Listing.{Page, on, off, refused, stopAt, offs, passStop, walk, pages, numbered, resultOn, listing}
 use Rattle.layout.proofs.Cover.{Fair, step-is-fair, Honest}
 use Rattle.layout.proofs.Checks.{accepted-result, answer-on}
@@ -78,10 +80,10 @@ module _ (top : ℕ) where
 
   scan-by : (s : Config) (a b : ℕ) (it : Item) (m : Mark) (next : ℕ → ℕ → Scan) → it .start + it .len ≤ top → ((p q : ℕ) → Fault ((next p q) .fault))
       → Fault ((scanBy s a b it m next) .fault)
-  scan-by s a b it plain next h k = k a b
-  scan-by s a b it ends next h k = fine
-  scan-by s a b it (timed p q) next h k = k _ _
-  scan-by s a b it (fails n) next h k = faulty h
+  scan-by s a b it Plain next h k = k a b
+  scan-by s a b it Ends next h k = fine
+  scan-by s a b it (Timed p q) next h k = k _ _
+  scan-by s a b it (Wrong n) next h k = faulty h
 
   scan-fault : (s : Config) (a b : ℕ) (its : List Item) → AllIn top its → Fault ((scan s a b its) .fault)
   scan-fault s a b [] h = fine

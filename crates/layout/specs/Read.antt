@@ -20,6 +20,8 @@ use Rattle.records.specs.declared.Config.{Config}
 use Rattle.layout.specs.declared.Rect.{Rect}
 use Rattle.layout.specs.declared.RenderState.{RenderState}
 use Rattle.layout.specs.declared.Entry.{Entry}
+use Rattle.layout.specs.declared.Mark.{Mark}
+use Rattle.layout.specs.declared.Mark.the-variants.{Plain, Ends, Timed, Wrong}
 use Rattle.layout.specs.declared.Step.{Step}
 use Rattle.layout.specs.declared.Step.the-variants.{Refuse, Go, Emit, Cut, Turn}
 use Rattle.layout.specs.Types.{Item, refusal, given}
@@ -30,46 +32,39 @@ use Rattle.layout.specs.Types.{Item, refusal, given}
 abbrev pub refusalAt : Item → ℕ → Refusal
 refusalAt it n = refusal n (it .start) (it .len) 0
 
--- what the scan makes of an item: it goes by, ends the page, sets its times, or fails
-pub data Mark : Type 0 where
-  plain : Mark
-  ends : Mark
-  timed : OptNum → OptNum → Mark
-  fails : ℕ → Mark
-
 -- a tag needs its name's bit in the sign's tags: 5, "a tag this sign doesn't support; field 0 counts as unsupported", having no bit
 abbrev pub tagged : ℕ → Value → Mark → Mark
-tagged tags v m = pick (hasTag tags (tagOf v)) m (fails 5)
+tagged tags v m = pick (hasTag tags (tagOf v)) m (Wrong 5)
 
 -- text needs none
 abbrev pub markOf : ℕ → Value → Mark
-markOf tags (ColorBackground c) = tagged tags (ColorBackground c) plain
-markOf tags (ColorForeground c) = tagged tags (ColorForeground c) plain
-markOf tags (ColorRectangle r c) = tagged tags (ColorRectangle r c) plain
-markOf tags (Field n w) = tagged tags (Field n w) plain
-markOf tags (Flash o a b) = tagged tags (Flash o a b) plain
-markOf tags FlashEnd = tagged tags FlashEnd plain
-markOf tags (Font f) = tagged tags (Font f) plain
-markOf tags (Graphic n p) = tagged tags (Graphic n p) plain
-markOf tags (HexadecimalCharacter c) = tagged tags (HexadecimalCharacter c) plain
-markOf tags (JustificationLine j) = tagged tags (JustificationLine j) plain
-markOf tags (JustificationPage j) = tagged tags (JustificationPage j) plain
-markOf tags (ManufacturerSpecific m p) = tagged tags (ManufacturerSpecific m p) plain
-markOf tags (ManufacturerSpecificEnd m p) = tagged tags (ManufacturerSpecificEnd m p) plain
-markOf tags (MovingText m d t) = tagged tags (MovingText m d t) plain
-markOf tags (NewLine s) = tagged tags (NewLine s) plain
-markOf tags NewPage = tagged tags NewPage ends
-markOf tags (PageBackground c) = tagged tags (PageBackground c) plain
-markOf tags (PageTime on off) = tagged tags (PageTime on off) (timed on off)
-markOf tags (SpacingCharacter s) = tagged tags (SpacingCharacter s) plain
-markOf tags SpacingCharacterEnd = tagged tags SpacingCharacterEnd plain
-markOf tags (Text p) = plain
-markOf tags (TextRectangle r) = tagged tags (TextRectangle r) plain
+markOf tags (ColorBackground c) = tagged tags (ColorBackground c) Plain
+markOf tags (ColorForeground c) = tagged tags (ColorForeground c) Plain
+markOf tags (ColorRectangle r c) = tagged tags (ColorRectangle r c) Plain
+markOf tags (Field n w) = tagged tags (Field n w) Plain
+markOf tags (Flash o a b) = tagged tags (Flash o a b) Plain
+markOf tags FlashEnd = tagged tags FlashEnd Plain
+markOf tags (Font f) = tagged tags (Font f) Plain
+markOf tags (Graphic n p) = tagged tags (Graphic n p) Plain
+markOf tags (HexadecimalCharacter c) = tagged tags (HexadecimalCharacter c) Plain
+markOf tags (JustificationLine j) = tagged tags (JustificationLine j) Plain
+markOf tags (JustificationPage j) = tagged tags (JustificationPage j) Plain
+markOf tags (ManufacturerSpecific m p) = tagged tags (ManufacturerSpecific m p) Plain
+markOf tags (ManufacturerSpecificEnd m p) = tagged tags (ManufacturerSpecificEnd m p) Plain
+markOf tags (MovingText m d t) = tagged tags (MovingText m d t) Plain
+markOf tags (NewLine s) = tagged tags (NewLine s) Plain
+markOf tags NewPage = tagged tags NewPage Ends
+markOf tags (PageBackground c) = tagged tags (PageBackground c) Plain
+markOf tags (PageTime on off) = tagged tags (PageTime on off) (Timed on off)
+markOf tags (SpacingCharacter s) = tagged tags (SpacingCharacter s) Plain
+markOf tags SpacingCharacterEnd = tagged tags SpacingCharacterEnd Plain
+markOf tags (Text p) = Plain
+markOf tags (TextRectangle r) = tagged tags (TextRectangle r) Plain
 
 -- a slice that fails has its number: 5, "no known tag"; 6, "a bad parameter"; 7, a code point outside 1 to 255
 abbrev pub markItem : ℕ → Said → Mark
 markItem tags (Is v) = markOf tags v
-markItem tags (Fails n) = fails n
+markItem tags (Fails n) = Wrong n
 
 -- a page's times, and its first failing slice, "by position up to and including [np], before any placing"
 pub record Scan : Type 0 where
@@ -79,10 +74,10 @@ pub record Scan : Type 0 where
 
 -- "Page times are the last [pt] before [np], a missing part taking the sign's default; without a [pt] they carry over from the page before"
 abbrev pub scanBy : Config → ℕ → ℕ → Item → Mark → (ℕ → ℕ → Scan) → Scan
-scanBy s a b it plain next = next a b
-scanBy s a b it ends next = record { on = a; off = b; fault = none }
-scanBy s a b it (timed p q) next = next (given p (s .«on_time»)) (given q (s .«off_time»))
-scanBy s a b it (fails n) next = record { on = a; off = b; fault = some (refusalAt it n) }
+scanBy s a b it Plain next = next a b
+scanBy s a b it Ends next = record { on = a; off = b; fault = none }
+scanBy s a b it (Timed p q) next = next (given p (s .«on_time»)) (given q (s .«off_time»))
+scanBy s a b it (Wrong n) next = record { on = a; off = b; fault = some (refusalAt it n) }
 
 abbrev pub scan : Config → ℕ → ℕ → List Item → Scan
 scan s a b [] = record { on = a; off = b; fault = none }

@@ -36,6 +36,14 @@ pub struct Entry {
     pub state: RenderState,
 }
 
+// What the scan of a page makes of an item: it goes by, ends the page, sets its times, or fails with a number.
+pub enum Mark {
+    Plain,
+    Ends,
+    Timed(OptNum, OptNum),
+    Wrong(u8),
+}
+
 // What an item of a pass does: a refusal; the next state and whether the line is still blank; a span with them; [tr], which ends the pass;
 // [np].
 pub enum Step {
