@@ -96,69 +96,33 @@ pub fn whole(c: Config) -> Rect
 
 impl RenderState {
     // The span number that comes next.
-    pub fn with_span(self, span: u8) -> RenderState
+    pub fn with_span(mut self, span: u8) -> RenderState
         ensures { λ r. ⌜ r ≡ withSpan self span ⌝ }
     {
-        let rect = self.rect;
-        let version = self.version;
-        let line_spacing = self.line_spacing;
-        let char_spacing = self.char_spacing;
-        RenderState {
-            rect,
-            just_page: self.just_page,
-            just_line: self.just_line,
-            font: self.font,
-            version,
-            line_spacing,
-            char_spacing,
-            line: self.line,
-            span,
-        }
+        self.span = span;
+        self
     }
 
     // [jl] restarts the span number.
-    pub fn with_just_line(self, just: u8) -> RenderState
+    pub fn with_just_line(mut self, just: u8) -> RenderState
         ensures { λ r. ⌜ r ≡ withJustLine self just ⌝ }
     {
-        let rect = self.rect;
-        let version = self.version;
-        let line_spacing = self.line_spacing;
-        let char_spacing = self.char_spacing;
-        RenderState {
-            rect,
-            just_page: self.just_page,
-            just_line: just,
-            font: self.font,
-            version,
-            line_spacing,
-            char_spacing,
-            line: self.line,
-            span: 0,
-        }
+        self.just_line = just;
+        self.span = 0;
+        self
     }
 
     // [jp] restarts line and span numbers if it changes the justification.
-    pub fn with_just_page(self, just: u8) -> RenderState
+    pub fn with_just_page(mut self, just: u8) -> RenderState
         ensures { λ r. ⌜ r ≡ withJustPage self just ⌝ }
     {
         if just == self.just_page {
             return self;
         }
-        let rect = self.rect;
-        let version = self.version;
-        let line_spacing = self.line_spacing;
-        let char_spacing = self.char_spacing;
-        RenderState {
-            rect,
-            just_page: just,
-            just_line: self.just_line,
-            font: self.font,
-            version,
-            line_spacing,
-            char_spacing,
-            line: 0,
-            span: 0,
-        }
+        self.just_page = just;
+        self.line = 0;
+        self.span = 0;
+        self
     }
 
     // [nl]: the next line.
@@ -224,23 +188,13 @@ impl RenderState {
     }
 
     // [tr] restarts line and span numbers.
-    pub fn with_rect(self, rect: Rect) -> RenderState
+    pub fn with_rect(mut self, rect: Rect) -> RenderState
         ensures { λ r. ⌜ r ≡ withRect self rect ⌝ }
     {
-        let version = self.version;
-        let line_spacing = self.line_spacing;
-        let char_spacing = self.char_spacing;
-        RenderState {
-            rect,
-            just_page: self.just_page,
-            just_line: self.just_line,
-            font: self.font,
-            version,
-            line_spacing,
-            char_spacing,
-            line: 0,
-            span: 0,
-        }
+        self.rect = rect;
+        self.line = 0;
+        self.span = 0;
+        self
     }
 
     // [np]: line spacing and rectangle restart, the rest carries on.
