@@ -1,6 +1,7 @@
 -- The ways on and out of the search for a font, and what holds of one that is found. Assumes nothing.
 use Prim.Native.Nat.{ℕ, _+_, _-_, _≤_, _<_}
 use mathlib.Core.Path.{_≡_, refl, sym, _∙_, ap, subst}
+use mathlib.Core.Option.{Option, none, some}
 use mathlib.Core.List.{List, [], _∷_, map}
 use mathlib.Core.Bool.{Bool, true, false}
 use native.Mathlib.Numerals.{add-one}
@@ -17,7 +18,7 @@ use Rattle.sign.specs.Accepted.{Each, each-none, each-more}
 use Rattle.sign.specs.declared.FontEntry.{FontEntry}
 use Rattle.sign.specs.declared.SignFile.{SignFile}
 use Rattle.sign.proofs.Answer.{Accepts}
-use Rattle.font.specs.Table.{Font-is, fontNumbered, numbered, entryFound}
+use Rattle.font.specs.Table.{fontNumbered, numbered, entryFound}
 use Rattle.font.specs.declared.FontFound.{FontFound}
 use Rattle.font.specs.declared.FontFound.the-variants.{Entry, Absent}
 
@@ -57,11 +58,11 @@ module _ (n i count : ℕ) (fonts : List FontEntry) (w : FontFound) (inv : numbe
 
 -- what is found in the table is what is found among the fonts
 pub numbered-is : (n : ℕ) (fs : List Font) → numbered n (map entryOf fs) ≡ entryFound (fontNumbered n fs)
-unfolding numbered fontNumbered
+unfolding numbered
 numbered-is n [] = refl
 numbered-is n (f ∷ fs) = go (eqb (f .number) n) (numbered-is n fs)
   where
-    go : (t : Bool) → numbered n (map entryOf fs) ≡ entryFound (fontNumbered n fs) → pick t (Entry (entryOf f)) (numbered n (map entryOf fs)) ≡ entryFound (pick t (Font-is f) (fontNumbered n fs))
+    go : (t : Bool) → numbered n (map entryOf fs) ≡ entryFound (fontNumbered n fs) → pick t (Entry (entryOf f)) (numbered n (map entryOf fs)) ≡ entryFound (pick t (some f) (fontNumbered n fs))
     go true e = refl
     go false e = e
 
@@ -73,12 +74,11 @@ table-holds file r a n = rw list (numbered-is n (a .fs))
 
 -- a font that is found has the number, and what holds of each font
 module _ (P : Font → Type 0) (n : ℕ) (f : Font) where
-  pub named-good : (fs : List Font) → Each P fs → fontNumbered n fs ≡ Font-is f → (f .number ≡ n) × P f
-  unfolding fontNumbered
+  pub named-good : (fs : List Font) → Each P fs → fontNumbered n fs ≡ some f → (f .number ≡ n) × P f
   named-good [] each-none e = never (let z : _≡_ {A = ℕ} 0 1 = cc in z)
   named-good (g ∷ fs) (each-more p ps) e = go (eqb (g .number) n) refl (named-good fs ps) e
     where
-      go : (t : Bool) → eqb (g .number) n ≡ t → (fontNumbered n fs ≡ Font-is f → (f .number ≡ n) × P f) → pick t (Font-is g) (fontNumbered n fs) ≡ Font-is f → (f .number ≡ n) × P f
+      go : (t : Bool) → eqb (g .number) n ≡ t → (fontNumbered n fs ≡ some f → (f .number ≡ n) × P f) → pick t (some g) (fontNumbered n fs) ≡ some f → (f .number ≡ n) × P f
       go true a k d =
           let same : g ≡ f = cc in
           (ap (λ (x : Font). x .number) (sym same) ∙ eqb-true (g .number) n a, subst P same p)

@@ -1,5 +1,6 @@
 -- A font by its number.
 use Prim.Native.Nat.{ℕ}
+use mathlib.Core.Option.{Option, none, some}
 use mathlib.Core.List.{List, [], _∷_}
 use lib.Dec.{eqb}
 use Rattle.base.specs.Pick.{pick}
@@ -10,13 +11,9 @@ use Rattle.font.specs.declared.FontFound.{FontFound}
 use Rattle.font.specs.declared.FontFound.the-variants.{Entry, Absent}
 
 -- among the fonts of a file
-pub data Named : Type 0 where
-  Font-is : Font → Named
-  No-font : Named
-
-unfoldable pub fontNumbered : ℕ → List Font → Named
-fontNumbered n [] = No-font
-fontNumbered n (f ∷ fs) = pick (eqb (f .number) n) (Font-is f) (fontNumbered n fs)
+abbrev pub fontNumbered : ℕ → List Font → Option Font
+fontNumbered n [] = none
+fontNumbered n (f ∷ fs) = pick (eqb (f .number) n) (some f) (fontNumbered n fs)
 
 -- among the entries of the table
 unfoldable pub numbered : ℕ → List FontEntry → FontFound
@@ -24,6 +21,6 @@ numbered n [] = Absent
 numbered n (e ∷ es) = pick (eqb (e .number) n) (Entry e) (numbered n es)
 
 -- the entry of what is found among the fonts
-abbrev pub entryFound : Named → FontFound
-entryFound (Font-is f) = Entry (entryOf f)
-entryFound No-font = Absent
+abbrev pub entryFound : Option Font → FontFound
+entryFound (some f) = Entry (entryOf f)
+entryFound none = Absent

@@ -66,13 +66,21 @@ Honest (it ∷ its) = Within (it .start) (it .len) (roleIn (it .says)) × Honest
 abbrev pub printedEntry : Entry → List (ℕ × ℕ)
 printedEntry e = printedBy (e .kind) (e .start) (e .len)
 
+-- an entry is the text that its item says, or no text
+abbrev pub Spoken : Entry → Role → Type 0
+Spoken e (text p) = (e .start ≡ p .start) × (e .len ≡ p .len)
+Spoken e hexadecimal = e .kind ≡ 0 → ⊥
+Spoken e (rectangle r) = e .kind ≡ 0 → ⊥
+Spoken e pageRole = e .kind ≡ 0 → ⊥
+Spoken e other = e .kind ≡ 0 → ⊥
+
 -- what a step keeps: places within the item, the pass's rectangle, what is printed
 abbrev pub Fair : List ℕ → Config → RenderState → Item → Step → Type 0
 Fair msg s st it (Refuse r) = (r .start ≡ it .start) × (r .length ≡ it .len)
 Fair msg s st it (Go st′ b) = (st′ .rect ≡ st .rect) × (rectAfter s (st .rect) (roleIn (it .says)) ≡ st .rect) × (printedItem it ≡ [])
 Fair msg s st it (Emit e st′ b) =
-    (st′ .rect ≡ st .rect) × (rectAfter s (st .rect) (roleIn (it .says)) ≡ st .rect) × (printedItem it ≡ printedEntry e) × (e .start ≡ it .start) × (e .len ≤ it .len) × (okay (it .says) ≡ 1)
-Fair msg s st it (Cut st′) = Grid s (st′ .rect) × (rectAfter s (st .rect) (roleIn (it .says)) ≡ st′ .rect) × (printedItem it ≡ [])
+    (st′ .rect ≡ st .rect) × (rectAfter s (st .rect) (roleIn (it .says)) ≡ st .rect) × (printedItem it ≡ printedEntry e) × (e .start ≡ it .start) × (e .len ≤ it .len) × (okay (it .says) ≡ 1) × Spoken e (roleIn (it .says))
+Fair msg s st it (Cut st′) = Grid s (st′ .rect) × (rectAfter s (st .rect) (roleIn (it .says)) ≡ st′ .rect) × (printedItem it ≡ []) × (rectFits s (st′ .rect) ≡ true)
 Fair msg s st it Turn = (rectAfter s (st .rect) (roleIn (it .says)) ≡ whole s) × (_≡_ {A = List (ℕ × ℕ)} (printedItem it) []) × (roleIn (it .says) ≡ pageRole)
 
 -- the same with the value apart
@@ -100,7 +108,7 @@ module _ (msg : List ℕ) (s : Config) (st : RenderState) (blank : Bool) (it : I
   goIf-fair v f e h (Some n) = (h n, rw e, rw e)
 
   line-fair : (l : OptNum) (b : Bool) → FairVal msg s st it (NewLine l) (lineStep it st l b)
-  line-fair l true = (refl, refl, refl, refl, omega arith, refl)
+  line-fair l true = (refl, refl, refl, refl, omega arith, refl, λ q. omega arith)
   line-fair l false = (refl, refl, refl)
 
   font-rect : (f : OptFont) → (fontStep s st f) .rect ≡ st .rect
@@ -118,7 +126,7 @@ module _ (msg : List ℕ) (s : Config) (st : RenderState) (blank : Bool) (it : I
   step-fair (Graphic n p) h = (refl, refl, refl)
   step-fair (HexadecimalCharacter c) h =
       pick-all (FairVal msg s st it (HexadecimalCharacter c)) (surrogate c) (λ _. (refl, refl))
-      (λ _. pick-all (FairVal msg s st it (HexadecimalCharacter c)) (ltb (st .span) 255) (λ _. (refl, refl, refl, refl, le-refl _, refl)) (λ _. (refl, refl)))
+      (λ _. pick-all (FairVal msg s st it (HexadecimalCharacter c)) (ltb (st .span) 255) (λ _. (refl, refl, refl, refl, le-refl _, refl, λ q. omega arith)) (λ _. (refl, refl)))
   step-fair (JustificationLine j) h = goIf-fair (JustificationLine j) (withJustLine st) refl (λ n. refl) (justified j (s .«line_just»))
   step-fair (JustificationPage j) h = goIf-fair (JustificationPage j) (withJustPage st) refl (λ n. refl) (justified j (s .«page_just»))
   step-fair (ManufacturerSpecific m p) h = (refl, refl, refl)
@@ -132,9 +140,9 @@ module _ (msg : List ℕ) (s : Config) (st : RenderState) (blank : Bool) (it : I
   step-fair (PageTime a b) h = (refl, refl, refl)
   step-fair (SpacingCharacter c) h = pick-all (FairVal msg s st it (SpacingCharacter c)) (above0 (s .«char_width») c) (λ _. (refl, refl)) (λ _. (refl, refl, refl))
   step-fair SpacingCharacterEnd h = (refl, refl, refl)
-  step-fair (Text p) h = pick-all (FairVal msg s st it (Text p)) (ltb (st .span) 255) (λ _. (refl, refl, refl, h .0, h .1, refl)) (λ _. (refl, refl))
+  step-fair (Text p) h = pick-all (FairVal msg s st it (Text p)) (ltb (st .span) 255) (λ _. (refl, refl, refl, h .0, h .1, refl, (refl, refl))) (λ _. (refl, refl))
   step-fair (TextRectangle r) h =
-      pick-all (FairVal msg s st it (TextRectangle r)) (rectFits s (rectOf s r)) (λ q. (rect-grid s (rectOf s r) q, refl, refl)) (λ _. (refl, refl))
+      pick-all (FairVal msg s st it (TextRectangle r)) (rectFits s (rectOf s r)) (λ q. (rect-grid s (rectOf s r) q, refl, refl, q)) (λ _. (refl, refl))
 
   said-fair : (x : Said) → Within (it .start) (it .len) (roleIn x) → Fair msg s st (record { start = it .start; len = it .len; says = x }) (itemStep s st blank it x)
   said-fair (Is v) h = step-fair v h

@@ -69,6 +69,9 @@ module _ (a : ℕ) (s : List ℕ) (h : 1 ≤ length s) where
   unfolding itemOf
   item-fits = shape-fits (shapeOf s)
 
+  pub item-within : Within a (length s) (roleIn (itemOf a s))
+  item-within = item-fits .starts
+
 -- ---- the items of a message
 
 cuts-honest : (at k : ℕ) (l : List ℕ) → Honest (map itemAt (cuts at k l))

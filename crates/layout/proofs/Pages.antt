@@ -17,8 +17,10 @@ use Rattle.layout.specs.declared.Span.{Span}
 use Rattle.layout.specs.declared.Rect.{Rect}
 use Rattle.layout.specs.declared.Entry.{Entry}
 use Rattle.layout.specs.Types.{Item, items, Board}
-use Rattle.measure.specs.Widths.{charFault}
-use Rattle.layout.specs.Fonts.{charsOf, fontNumbered, versionFault, charFaultAfter, faultIn, widthIn, heightIn, meterOf, boardOf}
+use Rattle.font.specs.Table.{fontNumbered}
+use Rattle.measure.specs.declared.Measure.{Measure}
+use Rattle.measure.specs.declared.Measure.the-variants.{Width, Missing}
+use Rattle.layout.specs.Fonts.{charsOf, versionFault, missing, widthOf, measureIn, charFaultAfter, faultIn, widthIn, heightIn, meterOf, boardOf}
 use Rattle.layout.specs.Place.{keep, select, same, firstFault, faultAt, spanFault, passFault, passRecords, recordOf}
 use Rattle.layout.specs.Read.{Scan, Event, pass, close, stop, stopIf, whole, start, read, opening, events}
 use Rattle.layout.specs.Listing.{Page, on, off, refused, stopAt, offs, passStop, walk, pages}
@@ -192,15 +194,20 @@ in-kept false c k i = there (k i)
 of-select : {A : Type 0} (f : A → Bool) {e : A} (l : List A) → In e (select f l) → In e l
 of-select f (c ∷ l) i = in-kept (f c) c (λ j. of-select f l j) i
 
--- a span's font is there, and has its characters
-char-none : (msg : List ℕ) (e : Entry) (f : Font) (x : Option (ℕ × ℕ)) → charFaultAfter msg e x f ≡ none → charFault (f .characters) (charsOf msg e) ≡ none
-char-none msg e f none q = q
+-- a span's font is there, and measures its text
+measure-none : (m : Measure) → missing m ≡ none → m ≡ Width (widthOf m)
+measure-none (Width w) q = refl
+measure-none (Missing c) q = absurd (let z : _≡_ {A = ℕ} 0 1 = cc in omega arith)
+
+char-none : (msg : List ℕ) (e : Entry) (f : Font) (x : Option (ℕ × ℕ)) → charFaultAfter msg e x f ≡ none → measureIn msg e f ≡ Width (widthIn msg e (some f))
+char-none msg e f none q = measure-none (measureIn msg e f) q
 char-none msg e f (some x) q = absurd (let z : _≡_ {A = ℕ} 0 1 = cc in omega arith)
 
 measured-in : (msg : List ℕ) (fs : List Font) (e : Entry) (q : Span) (o : Option Font) → fontNumbered (e .state .font) fs ≡ o → faultIn msg e o ≡ none → q .width ≡ widthIn msg e o
     → q .height ≡ heightIn o → Measured msg fs e q
+unfolding measureIn
 measured-in msg fs e q none p f w h = absurd (let z : _≡_ {A = ℕ} 0 1 = cc in omega arith)
-measured-in msg fs e q (some f) p g w h = record { font = f; found = p; defined = char-none msg e f (versionFault (e .state .version) f) g; width = w; height = h }
+measured-in msg fs e q (some f) p g w h = record { font = f; found = p; width = char-none msg e f (versionFault (e .state .version) f) g ∙ ap Width (sym w); height = h }
 
 fault-none : (s : Board) (r : Rect) (es : List Entry) (e : Entry) (x : Option (ℕ × ℕ)) → faultAt s r es e x ≡ none → x ≡ none
 fault-none s r es e none q = refl

@@ -112,9 +112,18 @@ pages-small msg s h n =
 
 -- ---- the slice after a call
 
+written-small : (s : Sign) (msg : List ℕ) (n room : ℕ) → length ((resultOn s msg n room) .written) ≤ 1400
+written-small s msg n room =
+    any-result msg n room (λ r. length (r .written) ≤ 1400) (λ k at. omega arith) (λ c fs p q. pages-small msg (boardOf msg c fs) p n) s
+
 written-room : (s : Sign) (msg : List ℕ) (n room : ℕ) → length ((resultOn s msg n room) .written) ≤ room
 written-room s msg n room =
     any-result msg n room (λ r. length (r .written) ≤ room) (λ k at. omega arith) (λ c fs p q. omega (arith, pages-small msg (boardOf msg c fs) p n)) s
+
+-- what a call writes is at most 1,400 records, and fits into the slice
+pub result-room : (file msg : List ℕ) (n room : ℕ) → (length ((result file msg n room) .written) ≤ 1400) × (length ((result file msg n room) .written) ≤ room)
+unfolding result
+result-room file msg n room = (written-small (signFile file) msg n room, written-room (signFile file) msg n room)
 
 pub keeps : (file msg : List ℕ) (n : ℕ) (lent : List Span) → length (after file msg n lent) ≡ length lent
 unfolding after result

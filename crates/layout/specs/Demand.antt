@@ -25,8 +25,10 @@ use Rattle.layout.specs.declared.Answer.the-variants.{On, Off, End, Refu
 use Rattle.layout.specs.declared.Rect.{Rect}
 use Rattle.layout.specs.declared.Entry.{Entry}
 use Rattle.layout.specs.Types.{Item, items, given, Board}
-use Rattle.measure.specs.Widths.{widthFrom, charFault}
-use Rattle.layout.specs.Fonts.{charsOf, fontNumbered, boardOf}
+use Rattle.measure.specs.declared.Measure.the-variants.{Width}
+use Rattle.font.specs.Table.{fontNumbered}
+use Rattle.measure.specs.Measure.{textWidth}
+use Rattle.layout.specs.Fonts.{charsOf, boardOf}
 use Rattle.layout.specs.Place.{group, due, recordOf, passRecords}
 use Rattle.layout.specs.Read.{rectOf, whole, Event, pass, close, stop, events}
 use Rattle.layout.specs.Listing.{listing, after}
@@ -194,8 +196,7 @@ pub record Tells (r : Rect) (e : Entry) (q : Span) : Type 0 where
 pub record Measured (msg : List ℕ) (fs : List SignFont) (e : Entry) (q : Span) : Type 0 where
   pub font : SignFont
   pub found : fontNumbered (e .state .font) fs ≡ some font
-  pub defined : charFault (font .characters) (charsOf msg e) ≡ none
-  pub width : q .width ≡ widthFrom (font .characters) (given (e .state .«char_spacing») (font .charSpacing)) 0 (charsOf msg e)
+  pub width : textWidth (font .characters) (given (e .state .«char_spacing») (font .charSpacing)) (charsOf msg e) ≡ Width (q .width)
   pub height : q .height ≡ font .height
 
 -- "the character height is 0 or divides every font height"

@@ -7,17 +7,15 @@ use lib.ListN.{take, drop}
 use Rattle.base.specs.Pick.{pick}
 use Rattle.records.specs.declared.Config.{Config}
 use Rattle.sign.specs.Sign.{Font}
-use Rattle.measure.specs.Widths.{widthFrom, charFault}
+use Rattle.font.specs.Table.{fontNumbered}
+use Rattle.measure.specs.declared.Measure.{Measure}
+use Rattle.measure.specs.declared.Measure.the-variants.{Width, Missing}
+use Rattle.measure.specs.Measure.{textWidth}
 use Rattle.utf8.specs.Utf8.{codes}
 use Rattle.value.specs.declared.OptNum.{OptNum}
 use Rattle.value.specs.declared.OptNum.the-variants.{Some, None}
 use Rattle.layout.specs.declared.Entry.{Entry}
 use Rattle.layout.specs.Types.{given, Meter, Board}
-
--- the font with a number
-abbrev pub fontNumbered : ℕ → List Font → Option Font
-fontNumbered n [] = none
-fontNumbered n (f ∷ fs) = pick (eqb (f .number) n) (some f) (fontNumbered n fs)
 
 -- 11: "Font version id differs", where the state has one
 abbrev pub versionFault : OptNum → Font → Option (ℕ × ℕ)
@@ -28,6 +26,15 @@ versionFault (Some v) f = pick (eqb v (f .version)) none (some (11, 0))
 abbrev pub charsOf : List ℕ → Entry → List ℕ
 charsOf msg e = pick (eqb (e .kind) 0) (codes (take (e .len) (drop (e .start) msg))) (pick (eqb (e .kind) 1) (e .code ∷ []) [])
 
+-- 12: "Character not defined; detail its code"
+abbrev pub missing : Measure → Option (ℕ × ℕ)
+missing (Width w) = none
+missing (Missing c) = some (12, c)
+
+abbrev pub widthOf : Measure → ℕ
+widthOf (Width w) = w
+widthOf (Missing c) = 0
+
 -- a span in its font, if that is defined
 module _ (msg : List ℕ) (e : Entry) where
   -- 10: "Font not defined; detail its number"
@@ -35,23 +42,27 @@ module _ (msg : List ℕ) (e : Entry) where
   fontFaultIn none = some (10, e .state .font)
   fontFaultIn (some f) = versionFault (e .state .version) f
 
+  -- "a span's spacing is its [sc] value, or its font's where none holds"
+  abbrev pub spacingIn : Option Font → ℕ
+  spacingIn none = given (e .state .«char_spacing») 0
+  spacingIn (some f) = given (e .state .«char_spacing») (f .charSpacing)
+
+  -- "Font measure", of what the span prints
+  unfoldable pub measureIn : Font → Measure
+  measureIn f = textWidth (f .characters) (spacingIn (some f)) (charsOf msg e)
+
   -- 10, 11, then 12
   abbrev pub charFaultAfter : Option (ℕ × ℕ) → Font → Option (ℕ × ℕ)
-  charFaultAfter none f = charFault (f .characters) (charsOf msg e)
+  charFaultAfter none f = missing (measureIn f)
   charFaultAfter (some r) f = some r
 
   abbrev pub faultIn : Option Font → Option (ℕ × ℕ)
   faultIn none = some (10, e .state .font)
   faultIn (some f) = charFaultAfter (versionFault (e .state .version) f) f
 
-  -- "a span's spacing is its [sc] value, or its font's where none holds"
-  abbrev pub spacingIn : Option Font → ℕ
-  spacingIn none = given (e .state .«char_spacing») 0
-  spacingIn (some f) = given (e .state .«char_spacing») (f .charSpacing)
-
   abbrev pub widthIn : Option Font → ℕ
   widthIn none = 0
-  widthIn (some f) = widthFrom (f .characters) (spacingIn (some f)) 0 (charsOf msg e)
+  widthIn (some f) = widthOf (measureIn f)
 
 abbrev pub heightIn : Option Font → ℕ
 heightIn none = 0

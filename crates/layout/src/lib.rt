@@ -1,6 +1,7 @@
 // The records and answers of a listing, as its definitions have them.
 ghost use mathlib.Core.Path.{_≡_};
 ghost use Prim.Native.Nat.{_<_};
+ghost use Rattle.layout.specs.Types.{given as givenOf};
 ghost use Rattle.layout.specs.Read.{withSpan, withJustLine, withJustPage, withLine, withCharSpacing, withFont, withRect, whole as wholeOf, newPage, start as startOf};
 use reading::Refusal;
 use records::Config;
@@ -56,6 +57,7 @@ pub enum Step {
 
 // A placed span. kind: 0 text, 1 hexadecimal character, 2 empty line. start and length in message bytes; code of kind 1, else 0; x and y
 // from 0; the rectangle's x and y from 1 as in [tr], its zero sizes extended.
+#[repr(C)]
 pub struct Span {
     pub kind: u16,
     pub start: u16,
@@ -80,6 +82,16 @@ pub enum Answer {
     Off(u16),
     End(u16),
     Refused(Refusal),
+}
+
+// The number of an option, or d where there is none.
+pub fn given(o: OptNum, d: u16) -> u16
+    ensures { λ r. ⌜ r ≡ givenOf o d ⌝ }
+{
+    match o {
+        OptNum::Some(n) => n,
+        OptNum::None => d,
+    }
 }
 
 // The whole sign.
@@ -108,8 +120,7 @@ impl RenderState {
         ensures { λ r. ⌜ r ≡ withJustLine self just ⌝ }
     {
         self.just_line = just;
-        self.span = 0;
-        self
+        self.with_span(0)
     }
 
     // [jp] restarts line and span numbers if it changes the justification.

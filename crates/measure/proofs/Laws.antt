@@ -78,11 +78,11 @@ module _ (w spacing more s m : ℕ) (p : s ≡ spacing) (q : m ≡ more) where
 pub ruleset wider-ways = (wider-more, wider-first)
 
 -- `short_width`
-widened-le : (w spacing more : ℕ) → spacing < 256 → more < 256 → widened w spacing more ≤ w + 510
+widened-le : (w spacing more : ℕ) → spacing < 65536 → more < 256 → widened w spacing more ≤ w + 65790
 unfolding widened
 widened-le w spacing more h k = go (ltb 0 w)
   where
-    go : (t : Bool) → w + (pick t spacing 0 + more) ≤ w + 510
+    go : (t : Bool) → w + (pick t spacing 0 + more) ≤ w + 65790
     go true = omega arith
     go false = omega arith
 
@@ -102,8 +102,8 @@ module _ (text : List ℕ) (at w : ℕ) (chs : List Character) (spacing : ℕ) (
     pub width-on : (more bitmap : ℕ) → f ≡ Is more bitmap → (v : ℕ) → v ≡ widened w spacing more → widthAfter chs spacing v (codes (drop (at + r .len) text)) ≡ m
     width-on more bitmap q v d = rw d (rw q at here)
 
--- the width is at most 510 for each byte
-pub width-fits : (text : List ℕ) (at w spacing more v : ℕ) (r : Code) → r ≡ codeAt text at → v ≡ widened w spacing more → spacing < 256 → more < 256 → w ≤ 510 * at → v ≤ 510 * (at + r .len)
+-- the width is at most 65,790 for each byte
+pub width-fits : (text : List ℕ) (at w spacing more v : ℕ) (r : Code) → r ≡ codeAt text at → v ≡ widened w spacing more → spacing < 65536 → more < 256 → w ≤ 65790 * at → v ≤ 65790 * (at + r .len)
 width-fits text at w spacing more v r e d s k b = omega (arith, widened-le w spacing more s k, len-is text at r e)
 
 pub ruleset width-ways = (width-end, width-missing, width-on, code-less)
@@ -113,5 +113,5 @@ unfolding textWidth
 width-start chs spacing text = refl
 
 -- `text_width`: a short text is all of it
-pub width-all : (chs : List Character) (spacing : ℕ) (text : List ℕ) (r : Measure) → r ≡ textWidth chs spacing (codes text) → length text ≤ 65535 → r ≡ textWidth chs spacing (codes (take 65535 text))
-width-all chs spacing text r e h = rw (take-all 65535 text h) e
+pub width-all : (chs : List Character) (spacing : ℕ) (text : List ℕ) (r : Measure) → r ≡ textWidth chs spacing (codes text) → length text ≤ 65000 → r ≡ textWidth chs spacing (codes (take 65000 text))
+width-all chs spacing text r e h = rw (take-all 65000 text h) e

@@ -1,3 +1,2 @@
 pub mod Measure
-pub mod Widths
 pub mod Examples

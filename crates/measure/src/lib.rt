@@ -24,12 +24,18 @@ pub fn character(file: &[u8], entry: FontEntry, code: u32) -> Found
     font::character(file, entry, code as u16)
 }
 
+fn wide16(x: u16) -> u32
+    ensures { λ r. ⌜ r ≡ x ⌝ }
+{
+    x as u32
+}
+
 // A width with one character more.
-fn wider(width: u32, spacing: u8, more: u8) -> u32
-    requires { ⌜ width ≤ 510 * 65535 ⌝ }
+fn wider(width: u32, spacing: u16, more: u8) -> u32
+    requires { ⌜ width ≤ 65790 * 65000 ⌝ }
     ensures { λ r. ⌜ r ≡ widened width spacing more ⌝ }
 {
-    let s = base::wide32(spacing);
+    let s = wide16(spacing);
     let m = base::wide32(more);
     if 0 < width {
         return width + (s + m);
@@ -38,8 +44,8 @@ fn wider(width: u32, spacing: u8, more: u8) -> u32
 }
 
 // The width of a short text.
-pub fn short_width(file: &[u8], entry: FontEntry, text: &[u8], spacing: u8) -> Measure
-    requires { ⌜ length (now text) ≤ 65535 ⌝ }
+pub fn short_width(file: &[u8], entry: FontEntry, text: &[u8], spacing: u16) -> Measure
+    requires { ⌜ length (now text) ≤ 65000 ⌝ }
     ensures { λ r. ⌜ r ≡ textWidth (charactersAt (now (file .entry)) entry) spacing (codes (now (text .entry))) ⌝ }
 {
     let mut w: u32 = 0;
@@ -55,12 +61,12 @@ pub fn short_width(file: &[u8], entry: FontEntry, text: &[u8], spacing: u8) -> M
     Measure::Width(w)
 }
 
-// The width of a text: of its first 65,535 bytes, where it has more.
-pub fn text_width(file: &[u8], entry: FontEntry, text: &[u8], spacing: u8) -> Measure
-    ensures { λ r. ⌜ r ≡ textWidth (charactersAt (now (file .entry)) entry) spacing (codes (take 65535 (now (text .entry)))) ⌝ }
+// The width of a text: of its first 65,000 bytes, where it has more.
+pub fn text_width(file: &[u8], entry: FontEntry, text: &[u8], spacing: u16) -> Measure
+    ensures { λ r. ⌜ r ≡ textWidth (charactersAt (now (file .entry)) entry) spacing (codes (take 65000 (now (text .entry)))) ⌝ }
 {
-    if text.len() <= 65535 {
+    if text.len() <= 65000 {
         return short_width(file, entry, text, spacing);
     }
-    short_width(file, entry, &text[..65535], spacing)
+    short_width(file, entry, &text[..65000], spacing)
 }

@@ -3,7 +3,6 @@ ghost use mathlib.Core.Path.{_≡_};
 ghost use Prim.Native.Nat.{_-_, _≤_};
 ghost use lib.ListN.{length, take, drop};
 ghost use Rattle.layout.specs.Read.{tagged as taggedOf, markOf, markItem, scan as scanOf};
-ghost use Rattle.layout.specs.Types.{given as givenOf};
 ghost use Rattle.page.specs.State.{newPage, doneAfter, nextState};
 ghost use Rattle.page.specs.Scan.{told, turnBy, turnAt, itemsFrom};
 use layout::Mark;
@@ -80,15 +79,6 @@ fn mark_item(tags: u32, item: Item) -> Mark
     }
 }
 
-fn given(o: OptNum, d: u8) -> u16
-    ensures { λ r. ⌜ r ≡ givenOf o d ⌝ }
-{
-    match o {
-        OptNum::Some(n) => n,
-        OptNum::None => d as u16,
-    }
-}
-
 // The times after an item at a place, or the scan's end.
 fn turn_by(c: Config, on: u16, off: u16, p: Place, m: Mark) -> Turn
     ensures { λ r. ⌜ r ≡ turnBy c on off p m ⌝ }
@@ -100,7 +90,10 @@ fn turn_by(c: Config, on: u16, off: u16, p: Place, m: Mark) -> Turn
             off,
             fault: OptRefusal::None,
         }),
-        Mark::Timed(a, b) => Turn::On(given(a, c.on_time), given(b, c.off_time)),
+        Mark::Timed(a, b) => Turn::On(
+            layout::given(a, c.on_time as u16),
+            layout::given(b, c.off_time as u16),
+        ),
         Mark::Wrong(number) => Turn::Stop(PageScan {
             on,
             off,

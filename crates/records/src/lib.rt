@@ -32,7 +32,7 @@ pub enum First {
     Refused,
 }
 
-fn wide16(x: u8) -> u16
+pub fn wide16(x: u8) -> u16
     ensures { λ r. ⌜ (r ≡ x) × (r < 256) ⌝ }
 {
     x as u16

@@ -1,7 +1,7 @@
 // Reading a pass: what each value of a message does to the render state, as `render_text_rectangle` has it.
 ghost use mathlib.Core.Path.{_≡_};
 ghost use Prim.Native.Nat.{_-_, _≤_, _<_};
-ghost use Rattle.layout.specs.Types.{refusal as refusalOf, given as givenOf};
+ghost use Rattle.layout.specs.Types.{refusal as refusalOf};
 ghost use Rattle.layout.specs.Read.{entryOf, withCharSpacing, extent as extentOf, fits as fitsOf, rectOf, rectFits, unit as unitOf, justified as justifiedOf, goIf, withJustLine, withJustPage, fontStep, spanStep, lineStep, surrogate as surrogateOf, above0, hexStep, newLineStep, spacingStep, rectStep, valueStep};
 ghost use Rattle.render.specs.Steps.{itemAt};
 use layout::Entry;
@@ -67,15 +67,6 @@ fn both_above(a: u8, b: u16) -> bool
     0 < a && 0 < b
 }
 
-fn given(o: OptNum, d: u16) -> u16
-    ensures { λ r. ⌜ r ≡ givenOf o d ⌝ }
-{
-    match o {
-        OptNum::Some(n) => n,
-        OptNum::None => d,
-    }
-}
-
 // The end of a line: an empty span where it is still blank.
 fn line_step(p: Place, st: RenderState, spacing: OptNum, blank: bool) -> Step
     requires { ⌜ st .line < 255 ⌝ }
@@ -99,7 +90,7 @@ fn line_step(p: Place, st: RenderState, spacing: OptNum, blank: bool) -> Step
 fn new_line_step(c: Config, st: RenderState, blank: bool, p: Place, spacing: OptNum) -> Step
     ensures { λ r. ⌜ r ≡ newLineStep c st blank (itemAt p) spacing ⌝ }
 {
-    if both_above(c.char_height, given(spacing, 0)) {
+    if both_above(c.char_height, layout::given(spacing, 0)) {
         return refuse(p, 6);
     }
     if st.line < 255 {

@@ -13,7 +13,7 @@ use Rattle.measure.proofs.short_width.Tie as tie
 
 abbrev Inv-loop : tie.InvT-loop
 Inv-loop file entry text spacing w₀ at₀ w at =
-    (w ≤ 510 * at) × (widthAfter (charactersAt file entry) spacing w (codes (drop at text)) ≡ textWidth (charactersAt file entry) spacing (codes text))
+    (w ≤ 65790 * at) × (widthAfter (charactersAt file entry) spacing w (codes (drop at text)) ≡ textWidth (charactersAt file entry) spacing (codes text))
 
 abbrev μ-loop : tie.MeasureT-loop
 μ-loop file entry text spacing w₀ at₀ w at = length text - at
