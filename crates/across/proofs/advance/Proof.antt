@@ -1,0 +1,12 @@
+use borrow.Author.Needs.{needs}
+use Rattle.across.proofs.Laws.{advance-ways}
+use Rattle.across.proofs.advance.Statement.{statement}
+use Rattle.across.proofs.advance.Tie as tie
+
+pub advance-spec : {M : Type 1} → statement M
+advance-spec =
+    tie.close (tie.spec
+    (λ c κs. search needs)  -- matches-span-requires
+    (λ c κs. search needs)  -- join-requires
+    (λ c. search (advance-ways, needs) depth 6)  -- returns
+    (λ c. search (advance-ways, needs) depth 6))  -- returns-2

@@ -1,0 +1,44 @@
+-- Offsets across as the loop makes them: one step for each row of the pass.
+use Prim.Native.Nat.{ℕ, _+_, _/_}
+use mathlib.Core.Bool.{Bool, true, false, _&&_}
+use mathlib.Core.List.{List, [], _∷_}
+use lib.Dec.{leb, ltb, eqb}
+use Rattle.base.specs.Pick.{pick}
+use Rattle.rows.specs.declared.Row.{Row}
+use Rattle.across.specs.declared.Sums.{Sums}
+
+-- `matches_span`
+abbrev pub sameRow : Row → Row → Bool
+sameRow r e = eqb (r .«just_page») (e .«just_page») && (eqb (r .line) (e .line) && eqb (r .«just_line») (e .«just_line»))
+
+-- the spacing due before a row
+abbrev pub gapOf : Sums → Row → ℕ
+gapOf o e = pick (o .seen) (pick (eqb (e .fixed) 1) (e .spacing) ((o .spacing + e .spacing + 1) / 2)) 0
+
+-- a row of the group joins the sums for span number n, with the gap before it
+abbrev pub joinedBy : ℕ → Sums → Row → ℕ → Sums
+joinedBy n o e g =
+    record {
+      before = o .before + pick (leb (e .span) n) g 0 + pick (ltb (e .span) n) (e .width) 0;
+      after = o .after + pick (leb (e .span) n) 0 g + pick (ltb (e .span) n) 0 (e .width);
+      seen = true;
+      spacing = e .spacing;
+      fault = pick (eqb (o .fault) 0) (e .fault) (o .fault);
+      detail = pick (eqb (o .fault) 0) (e .detail) (o .detail);
+    }
+
+abbrev pub joined : ℕ → Sums → Row → Sums
+joined n o e = joinedBy n o e (gapOf o e)
+
+-- one row more of the pass
+unfoldable pub advanced : Row → Sums → Row → Sums
+advanced r o e = pick (sameRow r e) (joined (r .span) o e) o
+
+-- the rows of a pass, for the span with the row r
+abbrev pub sums : Row → Sums → List Row → Sums
+sums r o [] = o
+sums r o (e ∷ es) = sums r (advanced r o e) es
+
+-- before the first row
+abbrev pub noneYet : Sums
+noneYet = record { before = 0; after = 0; seen = false; spacing = 0; fault = 0; detail = 0 }

@@ -1,0 +1,123 @@
+-- What the fonts of a sign file say of a span, as the code takes it.
+use Prim.Native.Nat.{ℕ, _+_, _≤_, _<_}
+use mathlib.Core.Path.{_≡_}
+use mathlib.Core.Option.{Option, none, some}
+use mathlib.Core.List.{List, [], _∷_}
+use lib.Dec.{eqb}
+use lib.ListN.{length, take, drop}
+use Rattle.base.specs.Pick.{pick}
+use Rattle.value.specs.declared.OptNum.{OptNum}
+use Rattle.value.specs.declared.OptNum.the-variants.{Some, None}
+use Rattle.utf8.specs.Utf8.{codes}
+use Rattle.sign.specs.Sign.{Font, Sign, Accepted as Content, RefusedAt as Refusal, signFile}
+use Rattle.sign.specs.Given.{given as tableOf}
+use Rattle.sign.specs.declared.FontEntry.{FontEntry}
+use Rattle.sign.specs.declared.SignFile.{SignFile}
+use Rattle.sign.specs.declared.Outcome.the-variants.{Accepted}
+use Rattle.font.specs.Character.{charactersAt}
+use Rattle.measure.specs.declared.Measure.{Measure}
+use Rattle.measure.specs.declared.Measure.the-variants.{Width, Missing}
+use Rattle.layout.specs.declared.Entry.{Entry}
+use Rattle.layout.specs.Types.{given, Meter}
+use Rattle.layout.specs.Fonts.{faultIn, spacingIn, widthIn, heightIn, lineSpacingIn, meterOf}
+use Rattle.rows.specs.declared.Row.{Row}
+use Rattle.rows.specs.Measured.{flag, faultNumber, faultDetail}
+use Rattle.meter.specs.declared.Gauge.{Gauge}
+use Rattle.meter.specs.declared.Fault.{Fault}
+
+-- the fonts of a sign file
+abbrev pub fontsIn : Sign → List Font
+fontsIn (Content c fs) = fs
+fontsIn (Refusal at) = []
+
+unfoldable pub meterIn : List ℕ → List ℕ → Meter
+meterIn file msg = meterOf msg (fontsIn (signFile file))
+
+-- the table was read from the file, which is accepted
+abbrev pub Opened : List ℕ → SignFile → Type 0
+Opened file t = (t ≡ tableOf (signFile file)) × (t .outcome ≡ Accepted)
+
+-- code points of 16 bits, as a refusal's detail has
+abbrev pub Narrow : List ℕ → Type 0
+Narrow [] = Unit {0}
+Narrow (c ∷ l) = (c < 65536) × Narrow l
+
+abbrev pub Short : Measure → Type 0
+Short (Width w) = Unit {0}
+Short (Missing c) = c < 65536
+
+-- the code points of the part of a message that is an entry's
+unfoldable pub partCodes : List ℕ → Entry → List ℕ
+partCodes msg e = codes (take (e .len) (drop (e .start) msg))
+
+-- an entry of a message: it lies inside, and a text is narrow
+pub record Readable (msg : List ℕ) (e : Entry) : Type 0 where
+  pub inside : e .start + e .len ≤ length msg
+  pub small : length msg ≤ 2048
+  pub narrow : e .kind ≡ 0 → Narrow (partCodes msg e)
+
+-- the font of an entry of the table
+unfoldable pub fontAt : List ℕ → FontEntry → Font
+fontAt file f = record { number = f .number; height = f .height; charSpacing = f .«char_spacing»; lineSpacing = f .«line_spacing»; version = f .«version_id»; first = f .first; characters = charactersAt file f }
+
+-- 11 where the version ids differ
+abbrev pub versionNumber : OptNum → ℕ → ℕ
+versionNumber None id = 0
+versionNumber (Some v) id = pick (eqb v id) 0 11
+
+abbrev pub fault : ℕ → ℕ → Fault
+fault n d = record { number = n; detail = d }
+
+abbrev pub missingBy : Measure → Fault
+missingBy (Width w) = fault 0 0
+missingBy (Missing c) = fault 12 c
+
+abbrev pub faultBy : ℕ → Measure → Fault
+faultBy version m = pick (eqb version 0) (missingBy m) (fault version 0)
+
+-- what is said of a span in its font, if that is defined
+unfoldable pub gaugeFor : List ℕ → Entry → Option Font → Gauge
+gaugeFor msg e o =
+    record {
+      spacing = spacingIn msg e o;
+      height = heightIn o;
+      «font_spacing» = lineSpacingIn o;
+      width = widthIn msg e o;
+      fault = faultNumber (faultIn msg e o);
+      detail = faultDetail (faultIn msg e o);
+    }
+
+unfoldable pub gaugeOf : Meter → Entry → Gauge
+gaugeOf m e =
+    record {
+      spacing = m .spacing e;
+      height = m .height e;
+      «font_spacing» = m .lineSpacing e;
+      width = m .width e;
+      fault = faultNumber (m .fault e);
+      detail = faultDetail (m .fault e);
+    }
+
+-- the row of a span with its gauge
+unfoldable pub rowBy : Entry → Gauge → Row
+rowBy e g =
+    record {
+      kind = e .kind;
+      start = e .start;
+      len = e .len;
+      code = e .code;
+      «just_page» = e .state .«just_page»;
+      «just_line» = e .state .«just_line»;
+      font = e .state .font;
+      line = e .state .line;
+      span = e .state .span;
+      fixed = flag (e .state .«char_spacing»);
+      spacing = g .spacing;
+      led = flag (e .state .«line_spacing»);
+      lead = given (e .state .«line_spacing») 0;
+      height = g .height;
+      «font_spacing» = g .«font_spacing»;
+      fault = g .fault;
+      detail = g .detail;
+      width = g .width;
+    }

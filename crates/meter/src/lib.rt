@@ -1,0 +1,212 @@
+// What the fonts of a sign file say of a span: taken once for each, and kept with it in its row.
+ghost use mathlib.Core.Path.{_≡_};
+ghost use mathlib.Core.List.{_∷_, []};
+ghost use mathlib.Core.Option.{none, some};
+ghost use Prim.Native.Nat.{_+_, _≤_, _<_};
+ghost use lib.ListN.{length};
+ghost use Rattle.font.specs.Character.{charactersAt};
+ghost use Rattle.layout.specs.Fonts.{charsOf, widthOf};
+ghost use Rattle.measure.specs.Measure.{textWidth};
+ghost use Rattle.rows.specs.Measured.{flag as flagOf, rowOf};
+ghost use Rattle.meter.specs.Gauges.{Opened, Narrow, partCodes, Readable, Short, meterIn, fontAt, versionNumber, faultBy, gaugeFor, gaugeOf, rowBy};
+use font::FontFound;
+use font::Found;
+use layout::Entry;
+use measure::Measure;
+use rows::Row;
+use sign::FontEntry;
+use sign::SignFile;
+use value::OptNum;
+
+// A span's spacing, its font's height and line spacing, its width, and number and detail of refusal 10, 11 or 12, or 0.
+pub struct Gauge {
+    pub spacing: u16,
+    pub height: u16,
+    pub font_spacing: u16,
+    pub width: u32,
+    pub fault: u16,
+    pub detail: u16,
+}
+
+// A refusal's number and detail, or zeros.
+pub struct Fault {
+    pub number: u16,
+    pub detail: u16,
+}
+
+fn flag(o: OptNum) -> u16
+    ensures { λ r. ⌜ r ≡ flagOf o ⌝ }
+{
+    match o {
+        OptNum::Some(_) => 1,
+        OptNum::None => 0,
+    }
+}
+
+// The width of a character alone.
+fn hex_width(file: &[u8], f: FontEntry, code: u16, spacing: u16) -> Measure
+    ensures { λ r. ⌜ (r ≡ textWidth (charactersAt (now (file .entry)) f) spacing (code ∷ [])) × Short r ⌝ }
+{
+    match font::character(file, f, code) {
+        Found::Is(w, _) => Measure::Width(w as u32),
+        Found::Missing => Measure::Missing(code as u32),
+    }
+}
+
+// The width of a text of the message.
+fn part_width(file: &[u8], f: FontEntry, msg: &[u8], e: Entry, spacing: u16) -> Measure
+    requires { ⌜ (e .start + e .len ≤ length (now msg)) × (length (now msg) ≤ 2048) × Narrow (partCodes (now msg) e) ⌝ }
+    ensures { λ r. ⌜ (r ≡ textWidth (charactersAt (now (file .entry)) f) spacing (partCodes (now (msg .entry)) e)) × Short r ⌝ }
+{
+    let start = e.start as usize;
+    let end = start + e.len as usize;
+    measure::short_width(file, f, &msg[start..end], spacing)
+}
+
+// The width of what a span prints.
+fn span_width(file: &[u8], f: FontEntry, msg: &[u8], e: Entry, spacing: u16) -> Measure
+    requires { ⌜ Readable (now msg) e ⌝ }
+    ensures { λ r. ⌜ (r ≡ textWidth (charactersAt (now (file .entry)) f) spacing (charsOf (now (msg .entry)) e)) × Short r ⌝ }
+{
+    if e.kind == 0 {
+        return part_width(file, f, msg, e, spacing);
+    }
+    if e.kind == 1 {
+        return hex_width(file, f, e.code, spacing);
+    }
+    Measure::Width(0)
+}
+
+// 11 where the version ids differ, else 0.
+fn version_number(version: OptNum, id: u16) -> u16
+    ensures { λ r. ⌜ r ≡ versionNumber version id ⌝ }
+{
+    match version {
+        OptNum::Some(v) => {
+            if v == id {
+                return 0;
+            }
+            11
+        }
+        OptNum::None => 0,
+    }
+}
+
+fn width_of(m: Measure) -> u32
+    ensures { λ r. ⌜ r ≡ widthOf m ⌝ }
+{
+    match m {
+        Measure::Width(w) => w,
+        Measure::Missing(_) => 0,
+    }
+}
+
+// 11, or 12 with its code where a character is missing.
+fn fault_by(version: u16, m: Measure) -> Fault
+    requires { ⌜ Short m ⌝ }
+    ensures { λ r. ⌜ r ≡ faultBy version m ⌝ }
+{
+    if version != 0 {
+        return Fault {
+            number: version,
+            detail: 0,
+        };
+    }
+    match m {
+        Measure::Width(_) => Fault {
+            number: 0,
+            detail: 0,
+        },
+        Measure::Missing(code) => Fault {
+            number: 12,
+            detail: code as u16,
+        },
+    }
+}
+
+// A span in a font.
+fn gauge_in(file: &[u8], f: FontEntry, msg: &[u8], e: Entry) -> Gauge
+    requires { ⌜ Readable (now msg) e ⌝ }
+    ensures { λ r. ⌜ r ≡ gaugeFor (now (msg .entry)) e (some (fontAt (now (file .entry)) f)) ⌝ }
+{
+    let st = e.state;
+    let char_spacing = st.char_spacing;
+    let version = st.version;
+    let spacing = layout::given(char_spacing, records::wide16(f.char_spacing));
+    let m = span_width(file, f, msg, e, spacing);
+    let fault = fault_by(version_number(version, f.version_id), m);
+    Gauge {
+        spacing,
+        height: records::wide16(f.height),
+        font_spacing: records::wide16(f.line_spacing),
+        width: width_of(m),
+        fault: fault.number,
+        detail: fault.detail,
+    }
+}
+
+// A span whose font is not defined.
+fn no_font(e: Entry) -> Gauge
+    ensures { λ r. ⌜ r ≡ gaugeFor [] e none ⌝ }
+{
+    let st = e.state;
+    let char_spacing = st.char_spacing;
+    Gauge {
+        spacing: layout::given(char_spacing, 0),
+        height: 0,
+        font_spacing: 0,
+        width: 0,
+        fault: 10,
+        detail: records::wide16(st.font),
+    }
+}
+
+// What the fonts say of a span.
+pub fn gauge_of(file: &[u8], table: SignFile, msg: &[u8], e: Entry) -> Gauge
+    requires { ⌜ Opened (now file) table × Readable (now msg) e ⌝ }
+    ensures { λ r. ⌜ r ≡ gaugeOf (meterIn (now (file .entry)) (now (msg .entry))) e ⌝ }
+{
+    let st = e.state;
+    match font::font_numbered(table, st.font) {
+        FontFound::Entry(f) => gauge_in(file, f, msg, e),
+        FontFound::Absent => no_font(e),
+    }
+}
+
+// The row of a span with its gauge.
+fn row_by(e: Entry, g: Gauge) -> Row
+    ensures { λ r. ⌜ (r ≡ rowBy e g) × (r .line < 256) ⌝ }
+{
+    let st = e.state;
+    let char_spacing = st.char_spacing;
+    let line_spacing = st.line_spacing;
+    Row {
+        kind: e.kind,
+        start: e.start,
+        len: e.len,
+        code: e.code,
+        just_page: records::wide16(st.just_page),
+        just_line: records::wide16(st.just_line),
+        font: records::wide16(st.font),
+        line: records::wide16(st.line),
+        span: records::wide16(st.span),
+        fixed: flag(char_spacing),
+        spacing: g.spacing,
+        led: flag(line_spacing),
+        lead: layout::given(line_spacing, 0),
+        height: g.height,
+        font_spacing: g.font_spacing,
+        fault: g.fault,
+        detail: g.detail,
+        width: g.width,
+    }
+}
+
+// A span's row.
+pub fn row_of(file: &[u8], table: SignFile, msg: &[u8], e: Entry) -> Row
+    requires { ⌜ Opened (now file) table × Readable (now msg) e ⌝ }
+    ensures { λ r. ⌜ (r ≡ rowOf (meterIn (now (file .entry)) (now (msg .entry))) e) × (r .line < 256) ⌝ }
+{
+    let g = gauge_of(file, table, msg, e);
+    row_by(e, g)
+}

@@ -1,0 +1,111 @@
+// Reading a pass: the values of a message up to [tr], [np] or the end, into rows of measured spans.
+ghost use mathlib.Core.Path.{_≡_};
+ghost use mathlib.Core.Bool.{true};
+ghost use Prim.Native.Nat.{_+_, _-_, _≤_, _<_};
+ghost use lib.ListN.{length, take, drop};
+ghost use Rattle.layout.specs.Read.{itemStep};
+ghost use Rattle.page.specs.Scan.{itemsFrom};
+ghost use Rattle.reading.specs.Reading.{place, itemOf};
+ghost use Rattle.render.specs.Steps.{itemAt};
+ghost use Rattle.rows.specs.Measured.{rowOf};
+ghost use Rattle.meter.specs.Gauges.{Opened, meterIn};
+ghost use Rattle.pass.specs.Pass.{Inside, Fair, stepAt, entriesOf, endingOf, told, Rows};
+use layout::Rect;
+use layout::RenderState;
+use layout::Step;
+use reading::Item;
+use reading::Refusal;
+use records::Config;
+use sign::SignFile;
+use value::Place;
+
+// How a pass ends: a refusal; [tr] or [np], with the place past it, the count of its spans, its rectangle, and the state after [tr] or before
+// [np]; the message's end.
+pub enum PassEnd {
+    Refused(Refusal),
+    Cut(usize, usize, Rect, RenderState),
+    Turn(usize, usize, Rect, RenderState),
+    End(usize, Rect),
+}
+
+// What an item at a place does.
+fn step_by(c: Config, st: RenderState, blank: bool, p: Place, item: Item) -> Step
+    requires { ⌜ (c .«line_just» ≤ 4) × (c .«page_just» ≤ 4) ⌝ }
+    ensures { λ r. ⌜ r ≡ itemStep c st blank (itemAt p) item ⌝ }
+{
+    match item {
+        Item::Is(v) => render::step(c, st, blank, p, v),
+        Item::Fails(number) => Step::Refuse(Refusal {
+            number,
+            start: p.start,
+            length: p.len,
+            detail: 0,
+        }),
+    }
+}
+
+// What the slice from a place to its end does.
+fn step_at(msg: &[u8], at: usize, end: usize, c: Config, st: RenderState, blank: bool) -> Step
+    requires { ⌜ (at ≤ end) × (end ≤ length (now msg)) × (length (now msg) ≤ 2048) × (c .«line_just» ≤ 4) × (c .«page_just» ≤ 4) ⌝ }
+    ensures { λ r. ⌜ r ≡ stepAt c st blank at (take (end - at) (drop at (now (msg .entry)))) ⌝ }
+{
+    let s = &msg[at..end];
+    let item = reading::item_of(at, s);
+    let p = Place {
+        start: at as u16,
+        len: s.len() as u16,
+    };
+    step_by(c, st, blank, p, item)
+}
+
+// The pass from a place on. Its spans' rows stand first in the slice.
+pub fn read_pass(
+    file: &[u8],
+    table: SignFile,
+    msg: &[u8],
+    from: usize,
+    start: RenderState,
+    rows: &mut [u16],
+) -> PassEnd
+    requires { ⌜ Opened (now file) table × (length (now msg) ≤ 2048) × (from ≤ length (now msg)) × (length (now rows) ≡ 38912) × Inside (table .config) (start .rect) ⌝ }
+    ensures { λ r. ⌜ (told (now (msg .entry)) r ≡ endingOf (table .config) (itemsFrom from (now (msg .entry))) start true)
+        × Rows (rowOf (meterIn (now (file .entry)) (now (msg .entry)))) (entriesOf (table .config) (itemsFrom from (now (msg .entry))) start true) (now (rows .exit)) r
+        × Fair (table .config) from (length (now (msg .entry))) r
+        × (length (now (rows .exit)) ≡ 38912) ⌝ }
+{
+    let c = table.config;
+    let mut st = start;
+    let mut blank = true;
+    let mut at = from;
+    let mut n: usize = 0;
+    while at < msg.len() {
+        let end = token::slice_end(msg, at);
+        match step_at(msg, at, end, c, st, blank) {
+            Step::Refuse(r) => {
+                return PassEnd::Refused(r);
+            }
+            Step::Go(next, b) => {
+                st = next;
+                blank = b;
+                at = end;
+            }
+            Step::Emit(e, next, b) => {
+                rows::put_row(rows, n, meter::row_of(file, table, msg, e));
+                st = next;
+                blank = b;
+                at = end;
+                n += 1;
+            }
+            Step::Cut(next) => {
+                let rect = st.rect;
+                return PassEnd::Cut(end, n, rect, next);
+            }
+            Step::Turn => {
+                let rect = st.rect;
+                return PassEnd::Turn(end, n, rect, st);
+            }
+        }
+    }
+    let rect = st.rect;
+    PassEnd::End(n, rect)
+}

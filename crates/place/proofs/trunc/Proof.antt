@@ -1,0 +1,14 @@
+use borrow.Author.Needs.{needs}
+use native.Mathlib.Nat.{div-mul-le-self}
+use native.Mathlib.Omega.{arith}
+use Rattle.place.proofs.Laws.{trunc-is}
+use Rattle.place.proofs.trunc.Statement.{statement}
+use Rattle.place.proofs.trunc.Tie as tie
+
+pub trunc-spec : {M : Type 1} → statement M
+trunc-spec =
+    tie.close (tie.spec
+    (λ c κs. search needs)  -- unit-requires
+    (λ c. search needs)  -- div-result
+    (λ c. let h = div-mul-le-self (c .before .args .x) (c .unit .result) in search needs)  -- mul-result
+    (λ c. trunc-is (c .before .args .n) (c .before .args .x) _ (c .unit .ensures .0)))  -- returns

@@ -1,0 +1,4 @@
+pub mod Elt
+pub mod Items
+pub mod Locals
+pub mod Over
