@@ -5,6 +5,9 @@ use Rattle.numbers.specs.Numbers.{numbersOf}
 use Rattle.reading.specs.declared.Reading.{Reading}
 use Rattle.reading.specs.declared.Reading.the-variants.{Slice, End, Refused}
 use Rattle.kambelohi.specs.declared.ReadAnswer.{ReadAnswer}
+use Rattle.layout.specs.declared.Answer.{Answer}
+use Rattle.layout.specs.declared.Answer.the-variants.{On, Off, End as LastEnd, Refused as RefusedBy}
+use Rattle.kambelohi.specs.declared.ListAnswer.{ListAnswer}
 
 abbrev pub noNumbers : List ℕ
 noNumbers = 0 ∷ 0 ∷ 0 ∷ 0 ∷ 0 ∷ 0 ∷ 0 ∷ 0 ∷ []
@@ -14,3 +17,13 @@ abbrev pub readAnswer : Reading → ReadAnswer
 readAnswer (Slice p v) = record { kind = 0; number = 0; start = p .start; length = p .len; detail = 0; code = (numbersOf v) .code; n = (numbersOf v) .n }
 readAnswer End = record { kind = 1; number = 0; start = 0; length = 0; detail = 0; code = 0; n = noNumbers }
 readAnswer (Refused f) = record { kind = 2; number = f .number; start = f .start; length = f .length; detail = f .detail; code = 0; n = noNumbers }
+
+abbrev pub plainAnswer : ℕ → ℕ → ℕ → ListAnswer
+plainAnswer k d n = record { kind = k; duration = d; count = n; number = 0; start = 0; length = 0; detail = 0 }
+
+-- on is 1, off 2, the end 3, a refusal 4
+abbrev pub listAnswer : Answer → ListAnswer
+listAnswer (On d n) = plainAnswer 1 d n
+listAnswer (Off d) = plainAnswer 2 d 0
+listAnswer (LastEnd n) = plainAnswer 3 0 n
+listAnswer (RefusedBy f) = record { kind = 4; duration = 0; count = 0; number = f .number; start = f .start; length = f .length; detail = f .detail }

@@ -1,7 +1,10 @@
 // What C and Rust link: the calls, with structs of numbers for answers. include/kambelohi.h says the same in C.
 ghost use mathlib.Core.Path.{_≡_};
-ghost use Rattle.kambelohi.specs.Exports.{readAnswer};
+ghost use Rattle.layout.specs.Listing.{listing as listingOf, after as afterOf};
+ghost use Rattle.kambelohi.specs.Exports.{readAnswer, plainAnswer, listAnswer};
 ghost use Rattle.reading.specs.Reading.{reading as readingOf};
+use layout::Answer;
+use layout::Span;
 use reading::Reading;
 
 // kind: 0 a slice with its value, 1 the end of the message, 2 a refusal. Of a slice: start, length, and the value's code and eight numbers.
@@ -61,4 +64,65 @@ pub extern "C" fn kambelohi_read(msg: &[u8], offset: usize) -> ReadAnswer
     ensures { λ r. ⌜ r ≡ readAnswer (readingOf (now (msg .entry)) offset) ⌝ }
 {
     read_answer(reading::read(msg, offset))
+}
+
+// An answer of a listing. kind: 1 on, 2 off, 3 the end, 4 a refusal. Of on: duration and count of records; of off: duration; of the end:
+// count of answers; of a refusal: number, start, length and detail. What a kind does not use is 0.
+#[repr(C)]
+pub struct ListAnswer {
+    pub kind: u16,
+    pub duration: u16,
+    pub count: u16,
+    pub number: u16,
+    pub start: u16,
+    pub length: u16,
+    pub detail: u16,
+}
+
+// An answer's kind and its times and counts.
+fn plain(kind: u16, duration: u16, count: u16) -> ListAnswer
+    ensures { λ r. ⌜ r ≡ plainAnswer kind duration count ⌝ }
+{
+    ListAnswer {
+        kind,
+        duration,
+        count,
+        number: 0,
+        start: 0,
+        length: 0,
+        detail: 0,
+    }
+}
+
+// The numbers of an answer of a listing.
+fn list_answer(a: Answer) -> ListAnswer
+    ensures { λ r. ⌜ r ≡ listAnswer a ⌝ }
+{
+    match a {
+        Answer::On(d, n) => plain(1, d, n),
+        Answer::Off(d) => plain(2, d, 0),
+        Answer::End(n) => plain(3, 0, n),
+        Answer::Refused(f) => ListAnswer {
+            kind: 4,
+            duration: 0,
+            count: 0,
+            number: f.number as u16,
+            start: f.start,
+            length: f.length,
+            detail: f.detail,
+        },
+    }
+}
+
+// Listing: sign file, message, answer number from 0, and the lent slice.
+#[no_mangle]
+pub extern "C" fn kambelohi_list(
+    file: &[u8],
+    message: &[u8],
+    answer: usize,
+    recs: &mut [Span],
+) -> ListAnswer
+    ensures { λ r. ⌜ (r ≡ listAnswer (listingOf (now (file .entry)) (now (message .entry)) answer (now (recs .entry)))) × (now (recs .exit) ≡ afterOf (now (file .entry)) (now (message .entry)) answer (now (recs .entry))) ⌝ }
+{
+    list_answer(listing::list(file, message, answer, recs))
 }

@@ -26,3 +26,89 @@ pub fn read(msg: &[u8], offset: usize) -> ReadAnswer {
     // The call takes any bytes, length and offset.
     unsafe { kambelohi_read(msg.as_ptr(), msg.len(), offset) }
 }
+
+/// A span record, as `include/kambelohi.h` has it: kind, start, length, code,
+/// x, y, width, height, font, line, span, and the rectangle's x, y, width and
+/// height
+#[repr(C)]
+#[derive(Clone, Copy, Debug, Default, Eq, PartialEq)]
+pub struct Span(pub [u16; 15]);
+
+/// An answer of the listing call
+#[repr(C)]
+#[derive(Clone, Copy, Debug, Default, Eq, PartialEq)]
+pub struct ListAnswer {
+    pub kind: u16,
+    pub duration: u16,
+    pub count: u16,
+    pub number: u16,
+    pub start: u16,
+    pub length: u16,
+    pub detail: u16,
+}
+
+impl ListAnswer {
+    pub fn on(duration: u16, count: u16) -> Self {
+        ListAnswer {
+            kind: 1,
+            duration,
+            count,
+            ..Default::default()
+        }
+    }
+
+    pub fn off(duration: u16) -> Self {
+        ListAnswer {
+            kind: 2,
+            duration,
+            ..Default::default()
+        }
+    }
+
+    pub fn end(count: u16) -> Self {
+        ListAnswer {
+            kind: 3,
+            count,
+            ..Default::default()
+        }
+    }
+
+    pub fn refused(number: u16, start: u16, length: u16, detail: u16) -> Self {
+        ListAnswer {
+            kind: 4,
+            number,
+            start,
+            length,
+            detail,
+            ..Default::default()
+        }
+    }
+}
+
+unsafe extern "C" {
+    fn kambelohi_list(
+        file: *const u8,
+        file_len: usize,
+        msg: *const u8,
+        msg_len: usize,
+        answer: usize,
+        spans: *mut Span,
+        span_count: usize,
+    ) -> ListAnswer;
+}
+
+/// List an answer of a message on a sign file
+pub fn list(file: &[u8], msg: &[u8], answer: usize, spans: &mut [Span]) -> ListAnswer {
+    // The call takes any bytes, answer number and slice.
+    unsafe {
+        kambelohi_list(
+            file.as_ptr(),
+            file.len(),
+            msg.as_ptr(),
+            msg.len(),
+            answer,
+            spans.as_mut_ptr(),
+            spans.len(),
+        )
+    }
+}

@@ -1,12 +1,16 @@
-//! Compares the reading call with the Rust, on the messages of a case stream.
+//! Compares the calls with the Rust, on the messages of a case stream.
 //!
 //! For each V line: every slice of the message by the real `next_slice` and
 //! `Value::try_from` against `kambelohi_read` at its start; every other offset
-//! against the rules for offsets. The first difference ends the run with 1.
+//! against the rules for offsets. For each L line: every answer of the real
+//! `Pages` with its records against `kambelohi_list` on a patterned slice.
+//! The first difference ends the run with 1, and its case is written to the
+//! file compare-failed.txt. `--progress` tells how far the run is.
 
 mod kambelohi;
+mod listings;
 
-use kambelohi::{ReadAnswer, read};
+use kambelohi::{ReadAnswer, Span, read};
 use kambelohi_oracle::values;
 use std::collections::BTreeMap;
 use std::io::BufRead;
@@ -105,37 +109,95 @@ fn compare(msg: &[u8], counts: &mut Counts) -> Result<(), String> {
     expect(msg, msg.len() + 1, refused(4, 0, 0))
 }
 
-fn run() -> Result<Counts, String> {
-    let mut counts = Counts::default();
+/// A stream of the one case that differs
+fn save(sign: Option<&str>, line: &str) {
+    let sign = sign.map_or(String::new(), |s| format!("S {s}\n"));
+    let text = format!("kambelohi cases 1\n{sign}{line}\nend 1\n");
+    if let Err(e) = std::fs::write("compare-failed.txt", text) {
+        eprintln!("compare-failed.txt: {e}");
+    }
+}
+
+/// Where a run stands
+#[derive(Default)]
+struct Run {
+    counts: Counts,
+    spread: listings::Spread,
+    hex: Option<String>,
+    sign: Vec<u8>,
+    slice: Vec<Span>,
+}
+
+impl Run {
+    fn list(&mut self, msg: &[u8]) -> Result<(), String> {
+        // A sign file that an S line has not given is empty.
+        self.slice.resize(1403, Span::default());
+        let n = 1400 + self.spread.listings % 4;
+        let slice = &mut self.slice[..n];
+        listings::compare(&self.sign, msg, slice, &mut self.spread)?;
+        if self.spread.listings % 8 == 0 {
+            listings::compare_rest(&self.sign, msg, slice)?;
+        }
+        Ok(())
+    }
+
+    fn line(&mut self, line: &str) -> Result<(), String> {
+        let bytes = |hex: &str| decode(hex).ok_or("bad bytes".to_string());
+        if let Some(hex) = line.strip_prefix("V ") {
+            compare(&bytes(hex)?, &mut self.counts)?;
+        } else if let Some(hex) = line.strip_prefix("S ") {
+            self.sign = bytes(hex)?;
+            self.hex = Some(hex.to_string());
+        } else if let Some(hex) = line.strip_prefix("L ") {
+            self.list(&bytes(hex)?)?;
+        }
+        Ok(())
+    }
+}
+
+fn run(progress: bool) -> Result<Run, String> {
+    let mut run = Run::default();
     for (i, line) in std::io::stdin().lock().lines().enumerate() {
         let line = line.map_err(|e| format!("line {}: {e}", i + 1))?;
-        if let Some(hex) = line.strip_prefix("V ") {
-            let msg = decode(hex).ok_or(format!("line {}: bad V", i + 1))?;
-            compare(&msg, &mut counts)?;
+        if let Err(e) = run.line(&line) {
+            save(run.hex.as_deref(), &line);
+            return Err(format!("line {}: {line}\n{e}", i + 1));
+        }
+        if progress && i % 10_000 == 0 {
+            eprint!("\r{} listings", run.spread.listings);
         }
     }
-    Ok(counts)
+    if progress {
+        eprintln!();
+    }
+    Ok(run)
 }
 
 fn main() {
-    match run() {
-        Ok(c) if c.messages > 0 => {
-            for ((code, number), n) in &c.codes {
-                println!("code {code:2} refusal {number}: {n}");
-            }
-            println!(
-                "{} messages, {} slices, {} other offsets: none differs \
-                 ({} where the Rust stops)",
-                c.messages, c.slices, c.offsets, c.stops
-            );
-        }
-        Ok(_) => {
-            eprintln!("compare: no V line on standard input");
-            std::process::exit(2);
-        }
+    let progress = std::env::args().any(|a| a == "--progress");
+    let run = match run(progress) {
+        Ok(run) => run,
         Err(e) => {
             eprintln!("{e}");
             std::process::exit(1);
         }
+    };
+    let c = &run.counts;
+    if c.messages + run.spread.listings == 0 {
+        eprintln!("compare: no V or L line on standard input");
+        std::process::exit(2);
+    }
+    if c.messages > 0 {
+        for ((code, number), n) in &c.codes {
+            println!("code {code:2} refusal {number}: {n}");
+        }
+        println!(
+            "{} messages, {} slices, {} other offsets: none differs \
+             ({} where the Rust stops)",
+            c.messages, c.slices, c.offsets, c.stops
+        );
+    }
+    if run.spread.listings > 0 {
+        run.spread.print();
     }
 }
