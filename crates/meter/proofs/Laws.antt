@@ -34,10 +34,10 @@ use Rattle.layout.specs.declared.Entry.{Entry}
 use Rattle.layout.specs.Types.{given, Meter}
 use Rattle.layout.specs.Fonts.{versionFault, charsOf, missing, widthOf, measureIn, charFaultAfter, faultIn, spacingIn, widthIn, meterOf}
 use Rattle.rows.specs.declared.Row.{Row}
-use Rattle.rows.specs.Measured.{flag, faultNumber, faultDetail, rowOf}
-use Rattle.meter.specs.declared.Gauge.{Gauge}
+use Rattle.rows.specs.Measured.{flag, faultNumber, faultDetail, gaugeOf, rowBy, rowOf}
+use Rattle.rows.specs.declared.Gauge.{Gauge}
 use Rattle.meter.specs.declared.Fault.{Fault}
-use Rattle.meter.specs.Gauges.{fontsIn, meterIn, Opened, Narrow, Short, partCodes, Readable, fontAt, versionNumber, fault, missingBy, faultBy, gaugeFor, gaugeOf, rowBy}
+use Rattle.meter.specs.Gauges.{fontsIn, meterIn, Opened, Narrow, Short, partCodes, Readable, fontAt, versionNumber, fault, missingBy, faultBy, gaugeFor}
 
 -- ---- widths
 
@@ -196,7 +196,7 @@ module _ (file : List ℕ) (t : SignFile) (b : Bytes file) (o : Opened file t) (
 -- the gauge of a span in the font that was found
 module _ (file msg : List ℕ) (e : Entry) (o : Option Font) (h : fontNumbered (e .state .font) (fontsIn (signFile file)) ≡ o) where
   pub gauge-found : (g : Gauge) → g ≡ gaugeFor msg e o → g ≡ gaugeOf (meterIn file msg) e
-  unfolding gaugeOf meterIn meterOf gaugeFor
+  unfolding meterIn meterOf gaugeFor
   gauge-found g q = q ∙ ap (gaugeFor msg e) (sym h)
 
 pub gauge-absent : (file msg : List ℕ) (e : Entry) (g : Gauge) → fontNumbered (e .state .font) (fontsIn (signFile file)) ≡ none → g ≡ gaugeFor [] e none → g ≡ gaugeOf (meterIn file msg) e
@@ -205,7 +205,6 @@ gauge-absent file msg e g h q = gauge-found file msg e none h g (q ∙ sym (gaug
 -- ---- the row
 
 pub row-is : (m : Meter) (e : Entry) → rowBy e (gaugeOf m e) ≡ rowOf m e
-unfolding rowBy gaugeOf
 row-is m e = refl
 
 pub row-made : (m : Meter) (e : Entry) (g : Gauge) (r : Row) → g ≡ gaugeOf m e → r ≡ rowBy e g → r ≡ rowOf m e
@@ -237,7 +236,6 @@ made e g jp jl f l n x d w =
 
 pub row-fields : (e : Entry) (g : Gauge) (jp jl f l n x d w : ℕ) → jp ≡ e .state .«just_page» → jl ≡ e .state .«just_line» → f ≡ e .state .font → l ≡ e .state .line → n ≡ e .state .span
     → x ≡ flag (e .state .«char_spacing») → d ≡ flag (e .state .«line_spacing») → w ≡ given (e .state .«line_spacing») 0 → made e g jp jl f l n x d w ≡ rowBy e g
-unfolding rowBy
 row-fields e g jp jl f l n x d w a b c h i j k m = rw (a, b, c, h, i, j, k, m)
 
 pub none-fields : (e : Entry) (s d : ℕ) → s ≡ given (e .state .«char_spacing») 0 → d ≡ e .state .font

@@ -18,11 +18,10 @@ use Rattle.font.specs.Character.{charactersAt}
 use Rattle.measure.specs.declared.Measure.{Measure}
 use Rattle.measure.specs.declared.Measure.the-variants.{Width, Missing}
 use Rattle.layout.specs.declared.Entry.{Entry}
-use Rattle.layout.specs.Types.{given, Meter}
+use Rattle.layout.specs.Types.{Meter}
 use Rattle.layout.specs.Fonts.{faultIn, spacingIn, widthIn, heightIn, lineSpacingIn, meterOf}
-use Rattle.rows.specs.declared.Row.{Row}
-use Rattle.rows.specs.Measured.{flag, faultNumber, faultDetail}
-use Rattle.meter.specs.declared.Gauge.{Gauge}
+use Rattle.rows.specs.Measured.{faultNumber, faultDetail}
+use Rattle.rows.specs.declared.Gauge.{Gauge}
 use Rattle.meter.specs.declared.Fault.{Fault}
 
 -- the fonts of a sign file
@@ -85,39 +84,4 @@ gaugeFor msg e o =
       width = widthIn msg e o;
       fault = faultNumber (faultIn msg e o);
       detail = faultDetail (faultIn msg e o);
-    }
-
-unfoldable pub gaugeOf : Meter → Entry → Gauge
-gaugeOf m e =
-    record {
-      spacing = m .spacing e;
-      height = m .height e;
-      «font_spacing» = m .lineSpacing e;
-      width = m .width e;
-      fault = faultNumber (m .fault e);
-      detail = faultDetail (m .fault e);
-    }
-
--- the row of a span with its gauge
-unfoldable pub rowBy : Entry → Gauge → Row
-rowBy e g =
-    record {
-      kind = e .kind;
-      start = e .start;
-      len = e .len;
-      code = e .code;
-      «just_page» = e .state .«just_page»;
-      «just_line» = e .state .«just_line»;
-      font = e .state .font;
-      line = e .state .line;
-      span = e .state .span;
-      fixed = flag (e .state .«char_spacing»);
-      spacing = g .spacing;
-      led = flag (e .state .«line_spacing»);
-      lead = given (e .state .«line_spacing») 0;
-      height = g .height;
-      «font_spacing» = g .«font_spacing»;
-      fault = g .fault;
-      detail = g .detail;
-      width = g .width;
     }

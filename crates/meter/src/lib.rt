@@ -7,26 +7,17 @@ ghost use lib.ListN.{length};
 ghost use Rattle.font.specs.Character.{charactersAt};
 ghost use Rattle.layout.specs.Fonts.{charsOf, widthOf};
 ghost use Rattle.measure.specs.Measure.{textWidth};
-ghost use Rattle.rows.specs.Measured.{flag as flagOf, rowOf};
-ghost use Rattle.meter.specs.Gauges.{Opened, Narrow, partCodes, Readable, Short, meterIn, fontAt, versionNumber, faultBy, gaugeFor, gaugeOf, rowBy};
+ghost use Rattle.rows.specs.Measured.{flag as flagOf, gaugeOf, rowBy, rowOf};
+ghost use Rattle.meter.specs.Gauges.{Opened, Narrow, partCodes, Readable, Short, meterIn, fontAt, versionNumber, faultBy, gaugeFor};
 use font::FontFound;
 use font::Found;
 use layout::Entry;
 use measure::Measure;
+use rows::Gauge;
 use rows::Row;
 use sign::FontEntry;
 use sign::SignFile;
 use value::OptNum;
-
-// A span's spacing, its font's height and line spacing, its width, and number and detail of refusal 10, 11 or 12, or 0.
-pub struct Gauge {
-    pub spacing: u16,
-    pub height: u16,
-    pub font_spacing: u16,
-    pub width: u32,
-    pub fault: u16,
-    pub detail: u16,
-}
 
 // A refusal's number and detail, or zeros.
 pub struct Fault {

@@ -8,6 +8,7 @@ use Rattle.value.specs.declared.OptNum.{OptNum}
 use Rattle.value.specs.declared.OptNum.the-variants.{Some, None}
 use Rattle.layout.specs.declared.Entry.{Entry}
 use Rattle.layout.specs.Types.{given, Meter}
+use Rattle.rows.specs.declared.Gauge.{Gauge}
 use Rattle.rows.specs.declared.Row.{Row}
 
 -- 1 if there is a number
@@ -23,8 +24,21 @@ abbrev pub faultDetail : Option (ℕ × ℕ) → ℕ
 faultDetail none = 0
 faultDetail (some f) = f .1
 
-abbrev pub rowOf : Meter → Entry → Row
-rowOf m e =
+-- what the fonts say of a span
+abbrev pub gaugeOf : Meter → Entry → Gauge
+gaugeOf m e =
+    record {
+      spacing = m .spacing e;
+      height = m .height e;
+      «font_spacing» = m .lineSpacing e;
+      width = m .width e;
+      fault = faultNumber (m .fault e);
+      detail = faultDetail (m .fault e);
+    }
+
+-- the row of a span with its gauge
+abbrev pub rowBy : Entry → Gauge → Row
+rowBy e g =
     record {
       kind = e .kind;
       start = e .start;
@@ -36,15 +50,18 @@ rowOf m e =
       line = e .state .line;
       span = e .state .span;
       fixed = flag (e .state .«char_spacing»);
-      spacing = m .spacing e;
+      spacing = g .spacing;
       led = flag (e .state .«line_spacing»);
       lead = given (e .state .«line_spacing») 0;
-      height = m .height e;
-      «font_spacing» = m .lineSpacing e;
-      fault = faultNumber (m .fault e);
-      detail = faultDetail (m .fault e);
-      width = m .width e;
+      height = g .height;
+      «font_spacing» = g .«font_spacing»;
+      fault = g .fault;
+      detail = g .detail;
+      width = g .width;
     }
+
+abbrev pub rowOf : Meter → Entry → Row
+rowOf m e = rowBy e (gaugeOf m e)
 
 -- number and detail of a refusal, where 0 stands for none
 abbrev pub faultOf : ℕ → ℕ → Option (ℕ × ℕ)

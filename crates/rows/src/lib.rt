@@ -29,6 +29,16 @@ pub struct Row {
     pub width: u32,
 }
 
+// A span's spacing, its font's height and line spacing, its width, and number and detail of refusal 10, 11 or 12, or 0.
+pub struct Gauge {
+    pub spacing: u16,
+    pub height: u16,
+    pub font_spacing: u16,
+    pub width: u32,
+    pub fault: u16,
+    pub detail: u16,
+}
+
 // A number from its two halves.
 fn whole(low: u16, high: u16) -> u32
     ensures { λ r. ⌜ r ≡ low + 65536 * high ⌝ }
