@@ -47,44 +47,6 @@ pub struct ListAnswer {
     pub detail: u16,
 }
 
-impl ListAnswer {
-    pub fn on(duration: u16, count: u16) -> Self {
-        ListAnswer {
-            kind: 1,
-            duration,
-            count,
-            ..Default::default()
-        }
-    }
-
-    pub fn off(duration: u16) -> Self {
-        ListAnswer {
-            kind: 2,
-            duration,
-            ..Default::default()
-        }
-    }
-
-    pub fn end(count: u16) -> Self {
-        ListAnswer {
-            kind: 3,
-            count,
-            ..Default::default()
-        }
-    }
-
-    pub fn refused(number: u16, start: u16, length: u16, detail: u16) -> Self {
-        ListAnswer {
-            kind: 4,
-            number,
-            start,
-            length,
-            detail,
-            ..Default::default()
-        }
-    }
-}
-
 unsafe extern "C" {
     fn kambelohi_list(
         file: *const u8,

@@ -8,6 +8,44 @@ use std::collections::BTreeMap;
 /// Records that a lent slice must have
 const ROOM: usize = 1400;
 
+impl ListAnswer {
+    pub fn on(duration: u16, count: u16) -> Self {
+        ListAnswer {
+            kind: 1,
+            duration,
+            count,
+            ..Default::default()
+        }
+    }
+
+    pub fn off(duration: u16) -> Self {
+        ListAnswer {
+            kind: 2,
+            duration,
+            ..Default::default()
+        }
+    }
+
+    pub fn end(count: u16) -> Self {
+        ListAnswer {
+            kind: 3,
+            count,
+            ..Default::default()
+        }
+    }
+
+    pub fn refused(number: u16, start: u16, length: u16, detail: u16) -> Self {
+        ListAnswer {
+            kind: 4,
+            number,
+            start,
+            length,
+            detail,
+            ..Default::default()
+        }
+    }
+}
+
 /// Listings by their last answer, and where the Rust gives none to compare
 #[derive(Default)]
 pub struct Spread {

@@ -15,7 +15,7 @@ pub use answer::{Answer, Item, Record, Refusal};
 pub use number::{decimal, hexadecimal, version_id};
 pub use sign::{Sign, with_version_ids};
 pub use stream::{StreamError, answer_stream};
-pub use values::{next_slices, values};
+pub use values::{next_slices, run_values, values};
 
 /// Characters of a font: the 256 of a sign file, and one entry that is never
 /// used. Its number is 0, which is what `Font::character` finds for code 0 in

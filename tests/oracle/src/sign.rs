@@ -82,6 +82,12 @@ impl Sign {
         self.list(message, false)
     }
 
+    /// Run the real page iterator on a message, for its time; gives the count
+    /// of its pages
+    pub fn run(&self, ms: &str) -> usize {
+        render::oracle::run(&self.board, ms)
+    }
+
     /// List a message
     pub(crate) fn list(&self, message: &[u8], check: bool) -> Vec<Answer> {
         if !self.comparable {

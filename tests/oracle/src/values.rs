@@ -28,6 +28,12 @@ pub fn values(message: &[u8]) -> Result<Vec<Item>, Refusal> {
     Ok(items.collect())
 }
 
+/// Run the real value iterator to the message's end, for its time; gives the
+/// count of values that it reads
+pub fn run_values(ms: &str) -> usize {
+    MultiStr::new(ms).filter(Result::is_ok).count()
+}
+
 /// Start and length of a message's slices
 pub fn next_slices(ms: &str) -> Vec<(usize, usize)> {
     let all = slices(ms).into_iter();

@@ -59,6 +59,11 @@ pub(crate) fn listing(board: &Board, ms: &str, check: bool) -> Vec<Answer> {
     answers
 }
 
+/// Run the real page iterator to its end or first error, for its time
+pub(crate) fn run(board: &Board, ms: &str) -> usize {
+    Real::new(board, ms).take_while(Result::is_ok).count()
+}
+
 /// Collect the answers of a message's pages
 fn drive(
     board: &Board,
