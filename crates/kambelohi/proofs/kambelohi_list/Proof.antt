@@ -1,4 +1,4 @@
--- `kambelohi_list` meets its contract: a walk of its MIR, by hand, with two calls and no loop. All that it knows of `list` and `numbers_of` is that each meets its contract.
+-- `kambelohi_list` meets its contract: a walk of its MIR, by hand, with two calls and no loop. All that it knows of `list` and `list_answer` is that each meets its contract.
 -- The two shared slices are copied: one copy of each goes to `list`, and one is kept for the exit. The slice of records goes to `list` and is given up for good (`gave-slice`).
 -- Assumes nothing.
 use mathlib.Core.Path.{_≡_, refl, _∙_, ap}
@@ -125,7 +125,7 @@ module _ {M : Type 1} (𝓤 : URA M) (H : Heap 𝓤) (A : Atoms 𝓤) (W : Given
   abbrev Known : Answer → List Span → Type 0
   Known r zs = (r ≡ listing (now file) (now message) n ys) × (zs ≡ after (now file) (now message) n ys)
 
-  -- ---- the call of `numbers_of`
+  -- ---- the call of `list_answer`
   abbrev to-numbers : Answer → Val → Numbers 𝓤 H A mem run .Ghost
   to-numbers r u = ((tt, tt, tt, (r, tt), (u ∷ [], tt)), tt)
 
@@ -165,7 +165,7 @@ module _ {M : Type 1} (𝓤 : URA M) (H : Heap 𝓤) (A : Atoms 𝓤) (W : Given
         move ! (5 ∷ []) $ split ! $ move ! (1 ∷ []) $ peeks ! N.the-row (Is N.the-row) (shows 𝓤 H A N.the-row) r (u ∷ []) (λ is.
         -- [the answer; the tokens; the last list; true; n; message; file; what is kept; _7; …]
         land ! (from ! (stop !)) (init ! 12 refl (EL.lawful N.the-type N′.the-laws 𝓤 H A W tt .typed r _ is .0)) $
-        -- `numbers_of`
+        -- `list_answer`
         use1 W (raw (Numbers 𝓤 H A mem run .pre (to-numbers r u))) (goes-numbers r u) $
         calls-at ! fm (Numbers 𝓤 H A mem run) known-numbers (to-numbers r u) (and-then ! (load ! (from ! (stop !)) (look ! 12 refl)) (no-more !)) (λ w.
         use1 W (later (some (λ (t : ListAnswer). (‵ ftrue ⊛ ‵ (B.the-row .own t (w ∷ []))) ⊛ raw (ensured 𝓤 H A numbers.ended (numbers.clauses 𝓤 H A mem run) tt (r, tt) tt t)))) (id⊢ 𝓤 _) $ await ! tt $ pick ! (λ t.
