@@ -2,19 +2,17 @@
 use Prim.Native.Nat.{ℕ, zero, suc, _+_, _-_, _*_, _≤_, _<_}
 use mathlib.Core.Path.{_≡_, refl, sym, _∙_, ap, subst}
 use mathlib.Core.Bool.{Bool, true, false, not}
-use mathlib.Core.List.{List, [], _∷_, _++_, map}
+use mathlib.Core.List.{List, [], _∷_, _++_}
 use native.Mathlib.Omega.{arith}
 use native.Mathlib.Numerals.{add-one}
 use native.Mathlib.Nat.{sub-zero}
-use lib.Dec.{ltb}
 use lib.ListN.{length, take, set}
 use lib.Seq.{take-suc-set}
 use borrow.Author.Tests.{lt-ltb, le-ltb}
-use Rattle.base.specs.Pick.{pick}
 use Rattle.utf8.specs.Utf8.{wellFormed}
 use Rattle.reading.specs.declared.Refusal.{Refusal}
 use Rattle.records.specs.declared.Config.{Config}
-use Rattle.sign.specs.Sign.{Font, Sign, Accepted, RefusedAt, signFile}
+use Rattle.sign.specs.Sign.{Font, Sign, Accepted, signFile}
 use Rattle.sign.specs.Accepted.{Bytes}
 use Rattle.sign.specs.Given.{given as tableOf}
 use Rattle.sign.specs.declared.SignFile.{SignFile}
@@ -25,11 +23,11 @@ use Rattle.layout.specs.declared.Answer.{Answer}
 use Rattle.layout.specs.declared.Answer.the-variants.{On, Off, End, Refused}
 use Rattle.layout.specs.Types.{items, Board, refusal}
 use Rattle.layout.specs.Fonts.{meterOf, boardOf}
-use Rattle.layout.specs.Listing.{Page, on, off, refused as refusedPage, pages, answerOf, recordsOf, Result, said, past, numbered, refusing, resultOn, result}
+use Rattle.layout.specs.Listing.{Page, on, off, refused as refusedPage, pages, Result, past, numbered, resultOn, result}
 use Rattle.layout.proofs.Room.{result-room}
 use Rattle.rows.specs.Rows.{cells, spanAt, spansOf}
 use Rattle.rows.proofs.Laws.{cells-last}
-use Rattle.meter.specs.Gauges.{fontsIn, meterIn, Opened}
+use Rattle.meter.specs.Gauges.{fontsIn, meterIn}
 use Rattle.pages.specs.declared.Pages.{Pages}
 use Rattle.pages.specs.declared.NextPage.{NextPage}
 use Rattle.pages.specs.declared.NextPage.the-variants.{On as NextOn, Off as NextOff, End as NextNone, Refused as NextRefused}

@@ -1,6 +1,6 @@
 -- The start of a refused sign file has 16 bits. Assumes nothing.
 use Prim.Native.Nat.{ℕ, zero, suc, _+_, _≤_, _<_}
-use mathlib.Core.Path.{_≡_, refl, sym, _∙_, ap, subst}
+use mathlib.Core.Path.{_≡_, refl}
 use mathlib.Core.Bool.{Bool, true, false}
 use mathlib.Core.List.{List, [], _∷_}
 use native.Mathlib.Omega.{arith}
@@ -9,9 +9,8 @@ use lib.ListN.{length, getD}
 use borrow.Author.Tests.{ltb-false}
 use Rattle.base.specs.Pick.{pick}
 use Rattle.records.specs.Config.{isConfig}
-use Rattle.records.specs.Record.{littleAt, whole, bodyLen, kindOf, Piece, Record, CutShort, firstPiece, restLen, cutFrom, pieces}
-use Rattle.records.specs.declared.Config.{Config}
-use Rattle.sign.specs.Sign.{Font, Before, NoFont, After, isFont, isCharacter, adding, Verdict, Fine, FailsAt, faultFrom, firstFault, fault, Sign, Accepted, RefusedAt, answer, configIn, fontsOf, signFile}
+use Rattle.records.specs.Record.{littleAt, whole, Piece, Record, CutShort, firstPiece, restLen, cutFrom, pieces}
+use Rattle.sign.specs.Sign.{Before, NoFont, After, isFont, isCharacter, adding, Verdict, Fine, FailsAt, faultFrom, firstFault, fault, RefusedAt, answer, configIn, fontsOf, signFile}
 use Rattle.sign.specs.Given.{given as tableOf}
 use Rattle.sign.specs.declared.SignFile.{SignFile}
 use Rattle.sign.specs.declared.Outcome.the-variants.{RefusedAt as RefusedOutcome}

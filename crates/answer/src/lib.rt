@@ -3,7 +3,7 @@ ghost use mathlib.Core.Path.{_≡_};
 ghost use Prim.Native.Nat.{_≤_, _<_};
 ghost use lib.ListN.{length, take};
 ghost use Rattle.layout.specs.Types.{items, refusal as refusalOf};
-ghost use Rattle.layout.specs.Listing.{pages as pagesOf, numbered as numberedOf, refusing, result};
+ghost use Rattle.layout.specs.Listing.{pages as pagesOf, numbered as numberedOf, result};
 ghost use Rattle.meter.specs.Gauges.{Opened};
 ghost use Rattle.pages.specs.Pages.{boardIn};
 ghost use Rattle.answer.specs.Answer.{told, answerBy, Countable, checkedOf, countOf};

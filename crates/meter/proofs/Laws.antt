@@ -1,13 +1,13 @@
 -- A span in its font, by the code's ways. Assumes nothing.
-use Prim.Native.Nat.{ℕ, zero, suc, _+_, _-_, _≤_, _<_}
+use Prim.Native.Nat.{ℕ, _+_, _-_, _<_}
 use mathlib.Core.Path.{_≡_, refl, sym, _∙_, ap}
 use mathlib.Core.Option.{Option, none, some}
 use mathlib.Core.Bool.{Bool, true, false}
 use mathlib.Core.List.{List, [], _∷_}
 use native.Mathlib.Omega.{arith}
 use borrow.Author.Tests.{eq-eqb, ne-eqb}
-use lib.Dec.{eqb, ltb}
-use lib.ListN.{length, take, drop}
+use lib.Dec.{eqb}
+use lib.ListN.{take, drop}
 use Rattle.base.specs.Pick.{pick}
 use Rattle.value.specs.declared.OptNum.{OptNum}
 use Rattle.value.specs.declared.OptNum.the-variants.{Some, None}
@@ -32,12 +32,12 @@ use Rattle.measure.specs.declared.Measure.the-variants.{Width, Missing}
 use Rattle.measure.specs.Measure.{widened, after, widthAfter, textWidth}
 use Rattle.layout.specs.declared.Entry.{Entry}
 use Rattle.layout.specs.Types.{given, Meter}
-use Rattle.layout.specs.Fonts.{versionFault, charsOf, missing, widthOf, measureIn, charFaultAfter, faultIn, spacingIn, widthIn, meterOf}
+use Rattle.layout.specs.Fonts.{versionFault, charsOf, missing, widthOf, measureIn, charFaultAfter, faultIn, meterOf}
 use Rattle.rows.specs.declared.Row.{Row}
 use Rattle.rows.specs.Measured.{flag, faultNumber, faultDetail, gaugeOf, rowBy, rowOf}
 use Rattle.rows.specs.declared.Gauge.{Gauge}
 use Rattle.meter.specs.declared.Fault.{Fault}
-use Rattle.meter.specs.Gauges.{fontsIn, meterIn, Opened, Narrow, Short, partCodes, Readable, fontAt, versionNumber, fault, missingBy, faultBy, gaugeFor}
+use Rattle.meter.specs.Gauges.{fontsIn, meterIn, Opened, Narrow, Short, partCodes, fontAt, versionNumber, fault, faultBy, gaugeFor}
 
 -- ---- widths
 

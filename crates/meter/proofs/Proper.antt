@@ -1,6 +1,6 @@
 -- What the layers above use of the fonts' meter. Assumes nothing.
-use Prim.Native.Nat.{ℕ, zero, suc, _+_, _≤_, _<_}
-use mathlib.Core.Path.{_≡_, refl, sym, _∙_, ap, subst}
+use Prim.Native.Nat.{ℕ, zero, suc, _+_, _<_}
+use mathlib.Core.Path.{_≡_, refl, subst}
 use mathlib.Core.Option.{Option, none, some}
 use mathlib.Core.Bool.{Bool, true, false}
 use mathlib.Core.List.{List, [], _∷_, map}
@@ -14,9 +14,8 @@ use Rattle.font.specs.Table.{fontNumbered}
 use Rattle.measure.specs.declared.Measure.{Measure}
 use Rattle.measure.specs.declared.Measure.the-variants.{Width, Missing}
 use Rattle.layout.specs.declared.Entry.{Entry}
-use Rattle.layout.specs.Types.{given, Meter}
+use Rattle.layout.specs.Types.{given}
 use Rattle.layout.specs.Fonts.{versionFault, missing, measureIn, fontFaultIn, spacingIn, charFaultAfter, faultIn, meterOf}
-use Rattle.rows.specs.declared.Row.{Row}
 use Rattle.rows.specs.Rows.{cells, rowAt, rowsOf}
 use Rattle.rows.specs.Measured.{faultNumber, faultDetail, faultOf, fontNumber, rowOf, Proper}
 use Rattle.meter.specs.Gauges.{fontsIn, meterIn}

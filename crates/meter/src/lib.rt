@@ -153,7 +153,7 @@ fn no_font(e: Entry) -> Gauge
 }
 
 // What the fonts say of a span.
-pub fn gauge_of(file: &[u8], table: SignFile, msg: &[u8], e: Entry) -> Gauge
+fn gauge_of(file: &[u8], table: SignFile, msg: &[u8], e: Entry) -> Gauge
     requires { ⌜ Opened (now file) table × Readable (now msg) e ⌝ }
     ensures { λ r. ⌜ r ≡ gaugeOf (meterIn (now (file .entry)) (now (msg .entry))) e ⌝ }
 {

@@ -1,22 +1,18 @@
 -- The answers, one after the other. Assumes nothing.
-use Prim.Native.Nat.{ℕ, zero, suc, _+_, _*_, _≤_, _<_}
+use Prim.Native.Nat.{ℕ, zero, suc, _≤_}
 use mathlib.Core.Path.{_≡_, refl, sym, _∙_, ap, subst}
 use mathlib.Core.Bool.{Bool, true, false}
-use mathlib.Core.Option.{Option, none, some}
-use mathlib.Core.List.{List, [], _∷_, map}
+use mathlib.Core.List.{List, [], _∷_}
 use native.Mathlib.Omega.{arith}
-use native.Mathlib.Nat.{le-refl}
 use borrow.Author.Tests.{lt-ltb}
 use lib.Dec.{ltb}
-use lib.ListN.{length, drop}
-use Rattle.token.specs.Token.{cuts, slices}
+use lib.ListN.{length}
+use Rattle.token.specs.Token.{slices}
 use Rattle.reading.specs.declared.Refusal.{Refusal}
 use Rattle.records.specs.declared.Config.{Config}
-use Rattle.layout.specs.declared.Rect.{Rect}
 use Rattle.layout.specs.declared.RenderState.{RenderState}
-use Rattle.layout.specs.declared.Span.{Span}
 use Rattle.layout.specs.Types.{Item, items, Board}
-use Rattle.layout.specs.Read.{Scan, scan, stopIf, whole, start, read, opening, events}
+use Rattle.layout.specs.Read.{Scan, scan, stopIf, read, opening, events}
 use Rattle.layout.specs.Listing.{Page, on, off, refused as refusedPage, offs, walk, pages}
 use Rattle.page.specs.declared.OptRefusal.{OptRefusal}
 use Rattle.page.specs.declared.OptRefusal.the-variants.{Some, None}
@@ -26,7 +22,6 @@ use Rattle.page.specs.declared.PageState.the-variants.{On as OnState, Off as Of
 use Rattle.page.specs.State.{newPage as newState, doneAfter, nextState}
 use Rattle.page.specs.Scan.{faultIs, told as scanTold, itemsFrom}
 use Rattle.rows.specs.Rows.{spansOf}
-use Rattle.pass.specs.Pass.{Inside}
 use Rattle.pages.specs.declared.PageEnd.{PageEnd}
 use Rattle.pages.specs.declared.PageEnd.the-variants.{Refused as RefusedEnd, Next as NextEnd, Last as LastEnd}
 use Rattle.pages.specs.declared.Pages.{Pages}

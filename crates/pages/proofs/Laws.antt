@@ -1,9 +1,9 @@
 -- A page, pass by pass. Assumes nothing.
-use Prim.Native.Nat.{ℕ, zero, suc, _+_, _*_, _≤_, _<_}
+use Prim.Native.Nat.{ℕ, suc, _+_, _≤_, _<_}
 use mathlib.Core.Path.{_≡_, refl, sym, _∙_, ap, subst}
-use mathlib.Core.Bool.{Bool, true, false}
+use mathlib.Core.Bool.{true}
 use mathlib.Core.Option.{Option, none, some}
-use mathlib.Core.List.{List, [], _∷_, _++_, map}
+use mathlib.Core.List.{List, [], _∷_, _++_}
 use native.Mathlib.Omega.{arith}
 use native.Mathlib.Numerals.{add-one}
 use lib.Dec.{ltb}
@@ -18,7 +18,7 @@ use Rattle.layout.specs.declared.Span.{Span}
 use Rattle.layout.specs.Types.{Item, Board, refusal}
 use Rattle.layout.specs.Read.{Event, newPage, whole, read}
 use Rattle.layout.specs.Place.{orElse, unless, passFault, passRecords}
-use Rattle.layout.specs.Listing.{Page, on, off, refused as refusedPage, offs, stopAt, passStop, walk}
+use Rattle.layout.specs.Listing.{Page, on, refused as refusedPage, offs, stopAt, walk}
 use Rattle.page.specs.Scan.{itemsFrom}
 use Rattle.rows.specs.Rows.{spansOf}
 use Rattle.pass.specs.declared.PassEnd.{PassEnd}
@@ -27,7 +27,7 @@ use Rattle.pass.specs.Pass.{Ending, refused, cut, turn, ended, entriesOf, endin
 use Rattle.pass.proofs.Read.{read-pass}
 use Rattle.pages.specs.declared.PageEnd.{PageEnd}
 use Rattle.pages.specs.declared.PageEnd.the-variants.{Refused as RefusedEnd, Next as NextEnd, Last as LastEnd}
-use Rattle.pages.specs.Pages.{stopBy, placedEnding, Written, Fits, run, turned, tooMany, lastOf, pageTold, PageFits}
+use Rattle.pages.specs.Pages.{stopBy, placedEnding, Written, Fits, run, turned, lastOf, pageTold, PageFits}
 
 -- ---- layout's answers, by a pass's ending
 

@@ -1,9 +1,9 @@
 -- A pass that is read and placed. Assumes nothing.
-use Prim.Native.Nat.{ℕ, _+_, _≤_, _<_}
+use Prim.Native.Nat.{ℕ, _+_, _≤_}
 use mathlib.Core.Path.{_≡_, refl, sym, _∙_, ap, subst}
 use mathlib.Core.Bool.{true}
 use mathlib.Core.Option.{Option, none, some}
-use mathlib.Core.List.{List, [], _∷_, _++_, map}
+use mathlib.Core.List.{List, _++_, map}
 use native.Mathlib.Omega.{arith}
 use lib.ListN.{length}
 use Rattle.reading.specs.declared.Refusal.{Refusal}
@@ -28,7 +28,7 @@ use Rattle.meter.specs.Gauges.{Opened, meterIn}
 use Rattle.meter.proofs.Proper.{meter-proper, rows-small}
 use Rattle.pass.specs.declared.PassEnd.{PassEnd}
 use Rattle.pass.specs.declared.PassEnd.the-variants.{Refused as RefusedPass, Cut as CutPass, Turn as TurnPass, End as EndPass}
-use Rattle.pass.specs.Pass.{Ending, refused, cut, turn, ended, entriesOf, endingOf, told, Rows, Inside, Fair}
+use Rattle.pass.specs.Pass.{Ending, cut, turn, ended, entriesOf, endingOf, told, Rows, Inside, Fair}
 use Rattle.pages.specs.Pages.{boardIn, orRefused, stopBy, placedEnding, Written, Fits}
 
 -- `place_read`: o is the answer of `place_pass`

@@ -1,21 +1,20 @@
 -- The pages of a message as the code goes through them: pass by pass, page by page, answer by answer. `pages-todo` of proofs/Answers.antt says that
 -- layout's `pages` is what is to come before the first answer.
-use Prim.Native.Nat.{ℕ, suc, _+_, _*_, _≤_, _<_}
+use Prim.Native.Nat.{ℕ, _+_, _*_, _≤_, _<_}
 use mathlib.Core.Path.{_≡_}
-use mathlib.Core.Bool.{Bool, true, false}
+use mathlib.Core.Bool.{true, false}
 use mathlib.Core.Option.{Option, none, some}
 use mathlib.Core.List.{List, [], _∷_, _++_}
 use lib.Dec.{ltb}
 use Rattle.reading.specs.declared.Refusal.{Refusal}
 use Rattle.records.specs.declared.Config.{Config}
-use Rattle.layout.specs.declared.Rect.{Rect}
 use Rattle.layout.specs.declared.RenderState.{RenderState}
 use Rattle.layout.specs.declared.Entry.{Entry}
 use Rattle.layout.specs.declared.Span.{Span}
 use Rattle.layout.specs.Types.{Item, Board, refusal}
-use Rattle.layout.specs.Read.{Scan, scan, stopIf, newPage, start, read}
+use Rattle.layout.specs.Read.{Scan, scan, stopIf, start, read}
 use Rattle.layout.specs.Place.{unless, passFault, passRecords}
-use Rattle.layout.specs.Listing.{Page, on, off, refused as refusedPage, offs, stopAt, walk}
+use Rattle.layout.specs.Listing.{Page, on, off, refused as refusedPage, offs, walk}
 use Rattle.page.specs.declared.PageState.{PageState}
 use Rattle.page.specs.declared.PageState.the-variants.{On as OnState, Off as OffState, Done}
 use Rattle.page.specs.State.{newPage as newState, doneAfter, nextState}

@@ -1,21 +1,20 @@
 -- What an item is to its step: its place alone; and a text has code points of 16 bits. Assumes nothing.
-use Prim.Native.Nat.{ℕ, zero, suc, _+_, _-_, _≤_, _<_}
-use mathlib.Core.Path.{_≡_, refl, sym, _∙_, ap}
+use Prim.Native.Nat.{ℕ, _<_}
+use mathlib.Core.Path.{_≡_, refl, ap}
 use mathlib.Core.Bool.{Bool, true, false}
 use mathlib.Core.Logic.{_⊎_, inl, inr}
 use mathlib.Core.List.{List, [], _∷_}
 use native.Mathlib.Omega.{arith}
 use native.Mathlib.Nat.{le-refl}
 use lib.Dec.{ltb, leb, eqb}
-use lib.ListN.{length, take, drop, getD}
+use lib.ListN.{length, take, getD}
 use lib.Seq.{take-all}
 use borrow.Author.Tests.{eqb-true, ltb-false}
 use Rattle.base.specs.Pick.{pick}
-use Rattle.utf8.specs.Utf8.{codes, codesFrom, codeOf, extra, allLatin1}
+use Rattle.utf8.specs.Utf8.{codes, codesFrom, codeOf, allLatin1}
 use Rattle.token.specs.declared.Shape.{Shape}
 use Rattle.token.specs.declared.Shape.the-variants.{Bracket, Tag, Stray, Text as TextShape}
 use Rattle.token.specs.Token.{isPair, lastByte, shapeOf}
-use Rattle.value.specs.declared.Place.{Place}
 use Rattle.value.specs.declared.Value.{Value}
 use Rattle.value.specs.declared.Value.the-variants.{ColorBackground, ColorForeground, ColorRectangle, Field, Flash, FlashEnd, Font, Graphic, HexadecimalCharacter, JustificationLine, JustificationPage, ManufacturerSpecific, ManufacturerSpecificEnd, MovingText, NewLine, NewPage, PageBackground, PageTime, SpacingCharacter, SpacingCharacterEnd, Text, TextRectangle}
 use Rattle.tag.specs.declared.Parsed.{Parsed}
@@ -34,7 +33,6 @@ use Rattle.layout.specs.Read.{refusalAt, withJustLine, withJustPage, justified,
 use Rattle.layout.specs.Demand.{Role, text, hexadecimal, rectangle, newPage as pageRole, other, roleOf, roleIn}
 use Rattle.layout.proofs.Cover.{Spoken}
 use Rattle.layout.proofs.Tags.{NoText, TagLike, good, unsupported, bad, tag-value}
-use Rattle.render.specs.Steps.{itemAt}
 use Rattle.meter.specs.Gauges.{Narrow}
 
 -- ---- a step looks at an item's place alone

@@ -2,14 +2,13 @@
 use Prim.Native.Nat.{ℕ, _+_, _-_, _%_, _≤_, _<_}
 use mathlib.Core.Path.{_≡_, refl, sym, _∙_, ap, subst}
 use mathlib.Core.Bool.{Bool, true, _&&_}
-use mathlib.Core.Option.{Option}
 use mathlib.Core.List.{List, [], _∷_, _++_, map, append-assoc, append-nil}
 use native.Mathlib.Omega.{arith}
 use lib.Dec.{leb, ltb, eqb}
 use borrow.Author.Tests.{leb-true}
 use lib.ListN.{length, take, drop, length-drop}
 use lib.Seq.{length-take-le, take-take}
-use Rattle.token.specs.Token.{Slice, sliceLen, cuts}
+use Rattle.token.specs.Token.{Slice, sliceLen}
 use Rattle.token.proofs.Laws.{cuts-next, cuts-end, next-le, next-more}
 use Rattle.utf8.specs.Utf8.{codes}
 use Rattle.reading.specs.declared.Refusal.{Refusal}
@@ -24,7 +23,6 @@ use Rattle.layout.specs.declared.Step.{Step}
 use Rattle.layout.specs.declared.Step.the-variants.{Refuse, Go, Emit, Cut, Turn}
 use Rattle.layout.specs.Types.{Item, itemAt}
 use Rattle.layout.specs.Read.{unit, rectFits, fits, itemStep, step}
-use Rattle.layout.specs.Demand.{roleIn}
 use Rattle.layout.proofs.PassLaws.{and-true}
 use Rattle.layout.proofs.Cover.{Fair as FairStep, step-is-fair}
 use Rattle.layout.proofs.Items.{item-within}
@@ -37,9 +35,8 @@ use Rattle.sign.specs.Accepted.{Bytes}
 use Rattle.sign.specs.declared.SignFile.{SignFile}
 use Rattle.sign.proofs.Answer.{Accepts, accepts}
 use Rattle.meter.specs.Gauges.{Opened, Narrow, partCodes, Readable}
-use Rattle.pass.specs.declared.PassEnd.{PassEnd}
 use Rattle.pass.specs.declared.PassEnd.the-variants.{Refused as RefusedBy, Cut as CutBy, Turn as TurnBy, End as EndBy}
-use Rattle.pass.specs.Pass.{Ending, refused, cut, turn, ended, entriesBy, entriesOf, endingBy, endingOf, stepAt, told, Rows, Inside, Fair}
+use Rattle.pass.specs.Pass.{ended, entriesBy, entriesOf, endingBy, endingOf, stepAt, told, Rows, Inside, Fair}
 use Rattle.pass.proofs.Items.{spoken-narrow, item-same}
 
 -- ---- a rectangle inside the sign

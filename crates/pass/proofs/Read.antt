@@ -1,6 +1,6 @@
 -- layout's `read`, pass by pass. Assumes nothing.
 use Prim.Native.Nat.{ℕ}
-use mathlib.Core.Path.{_≡_, refl, sym, _∙_, ap}
+use mathlib.Core.Path.{_≡_, refl, _∙_, ap}
 use mathlib.Core.Bool.{Bool, true}
 use mathlib.Core.List.{List, [], _∷_, _++_, append-assoc, append-nil}
 use Rattle.records.specs.declared.Config.{Config}
@@ -9,8 +9,8 @@ use Rattle.layout.specs.declared.Entry.{Entry}
 use Rattle.layout.specs.declared.Step.{Step}
 use Rattle.layout.specs.declared.Step.the-variants.{Refuse, Go, Emit, Cut, Turn}
 use Rattle.layout.specs.Types.{Item}
-use Rattle.layout.specs.Read.{step, follow, read, Event}
-use Rattle.pass.specs.Pass.{Ending, entriesBy, entriesOf, endingBy, endingOf, eventsBy}
+use Rattle.layout.specs.Read.{step, follow, read}
+use Rattle.pass.specs.Pass.{entriesBy, entriesOf, endingBy, endingOf, eventsBy}
 
 module _ (c : Config) (a b : ℕ) where
   follow-pass : (st : RenderState) (acc : List Entry) (its : List Item) (t : Step)

@@ -1,12 +1,10 @@
--- A pass as the code reads it: its spans, and how it ends. `read-pass` of proofs/Laws.antt says that layout's `read` is made of these.
+-- A pass as the code reads it: its spans, and how it ends. `read-pass` of proofs/Read.antt says that layout's `read` is made of these.
 use Prim.Native.Nat.{ℕ, _+_, _≤_, _<_}
 use mathlib.Core.Path.{_≡_}
 use mathlib.Core.Bool.{Bool, true}
 use mathlib.Core.List.{List, [], _∷_, map}
-use lib.ListN.{length}
 use Rattle.reading.specs.declared.Refusal.{Refusal}
 use Rattle.records.specs.declared.Config.{Config}
-use Rattle.token.specs.Token.{Slice}
 use Rattle.layout.specs.declared.Rect.{Rect}
 use Rattle.layout.specs.declared.RenderState.{RenderState}
 use Rattle.layout.specs.declared.Entry.{Entry}

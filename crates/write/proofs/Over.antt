@@ -1,9 +1,9 @@
 -- Laws of `overwrite`: its length, and one element more. They hold of any type of elements.
-use mathlib.Core.Path.{_≡_, refl, sym, _∙_, ap}
-use Prim.Native.Nat.{ℕ, suc, _+_, _-_, _<_, _≤_}
+use mathlib.Core.Path.{_≡_, sym, _∙_, ap}
+use Prim.Native.Nat.{ℕ, suc, _+_, _<_, _≤_}
 use native.Mathlib.Omega.{arith}
-use mathlib.Core.List.{List, [], _∷_, _++_}
-use lib.ListN.{length, take, drop, set, getD, length-append, length-take, length-drop}
+use mathlib.Core.List.{List, _++_}
+use lib.ListN.{length, take, drop, set, getD, length-append, length-drop}
 use lib.Seq.{length-take-le, drop-cons, take-suc, append-snoc, set-at}
 use Rattle.write.specs.Overwrite.{overwrite}
 
@@ -20,8 +20,5 @@ over-suc xs ys i d hx hy =
 
 -- overwritten is what was taken, and after it what was there, as the definitions of a listing have it
 module _ {A : Type 0} (xs ys : List A) (n : ℕ) where
-  pub overwrite-is : n ≤ length xs → n ≤ length ys → overwrite n xs ys ≡ take n xs ++ drop n ys
-  overwrite-is hx hy = refl
-
   pub overwrite-after : (w : List A) → n ≤ length xs → take n xs ≡ w → overwrite n xs ys ≡ w ++ drop (length w) ys
   overwrite-after w hx e = ap (λ (l : List A). l ++ drop n ys) e ∙ ap (λ (k : ℕ). w ++ drop k ys) (sym (length-take-le n xs hx) ∙ ap length e)
