@@ -58,7 +58,7 @@ fn small() -> Vec<u8> {
 
 /// Four fonts, each of 256 characters
 fn full() -> Vec<u8> {
-    let mut s = configuration(4096, 54);
+    let mut s = configuration(96, 54);
     for n in 1..=4 {
         s.extend(font(n, 5 + 2 * n, 1, 5, 1..257));
     }
