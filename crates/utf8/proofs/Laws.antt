@@ -4,7 +4,7 @@ use mathlib.Core.Path.{_≡_, refl, sym, _∙_, ap}
 use mathlib.Core.List.{List, [], _∷_}
 use mathlib.Core.Bool.{Bool, true, false}
 use native.Mathlib.Omega.{arith}
-use borrow.Author.Tests.{not-true, not-false}
+use borrow.Author.Tests.{ltb-true, ltb-false, le-ltb, not-true, not-false}
 use lib.Dec.{ltb, eqb}
 use lib.ListN.{length, getD, drop, drop-of-length-le}
 use lib.Seq.{getD-drop, drop-drop}
@@ -12,13 +12,13 @@ use Rattle.base.specs.Pick.{pick, picks}
 use Rattle.base.specs.Lists.{drop-step, past-end}
 use Rattle.utf8.specs.declared.Due.{Due}
 use Rattle.utf8.specs.declared.Code.{Code}
-use Rattle.utf8.specs.Utf8.{first, extra, due, fits, after, wellFormedFrom, bits, codeOf, codesFrom, codes, coded, codeAt, allLatin1}
+use Rattle.utf8.specs.Utf8.{first, extra, due, fits, after, wellFormedFrom, allAscii, bits, codeOf, codesFrom, codes, coded, codeAt, allLatin1}
 
 -- `after`
 pub due-same : (k lo hi k′ lo′ hi′ : ℕ) → k ≡ k′ → lo ≡ lo′ → hi ≡ hi′ → due k lo hi ≡ due k′ lo′ hi′
 due-same k lo hi k′ lo′ hi′ p q r = rw (p, q, r)
 
--- `well_formed`
+-- `walk`
 module _ (l : List ℕ) (i : ℕ) (d : Due) (w : Bool) (inv : wellFormedFrom d (drop i l) ≡ w) where
   module _ (h : i < length l) (t : Bool) (e : t ≡ fits d (getD l i 0)) where
     here : pick t (wellFormedFrom (after d (getD l i 0)) (drop (i + 1) l)) false ≡ w
@@ -36,6 +36,32 @@ module _ (l : List ℕ) (i : ℕ) (d : Due) (w : Bool) (inv : wellFormedFrom d (
   formed-end h = rw (drop-of-length-le l h) at inv
 
 pub ruleset formed-ways = (formed-bad, formed-on, formed-end, not-true, not-false)
+
+-- `ascii`: the larger of two bytes is ASCII where both are
+larger-both : (m b : ℕ) (x : Bool) → pick (ltb (pick (ltb m b) b m) 128) x false ≡ pick (ltb m 128) (pick (ltb b 128) x false) false
+larger-both m b x = go (ltb m b) (ltb m 128) (ltb b 128) refl refl refl
+  where
+    go : (t u v : Bool) → ltb m b ≡ t → ltb m 128 ≡ u → ltb b 128 ≡ v → pick (ltb (pick t b m) 128) x false ≡ pick u (pick v x false) false
+    go true true v e f g = rw g
+    go true false v e f g = rw (le-ltb b 128 (omega (arith, ltb-true m b e, ltb-false m 128 f)))
+    go false false v e f g = rw f
+    go false true true e f g = rw f
+    go false true false e f g = absurd (omega (arith, ltb-false m b e, ltb-true m 128 f, ltb-false b 128 g))
+
+module _ (l : List ℕ) (i m : ℕ) (w : Bool) (inv : pick (ltb m 128) (allAscii (drop i l)) false ≡ w) where
+  pub ascii-on : i < length l → (r : ℕ) → r ≡ pick (ltb m (getD l i 0)) (getD l i 0) m → pick (ltb r 128) (allAscii (drop (i + 1) l)) false ≡ w
+  unfolding allAscii
+  ascii-on h r e = rw e (larger-both m (getD l i 0) (allAscii (drop (i + 1) l)) ∙ (rw (drop-step l i h) at inv))
+
+  pub ascii-end : length l ≤ i → ltb m 128 ≡ w
+  unfolding allAscii
+  ascii-end h = alone (ltb m 128) ∙ (rw (drop-of-length-le l h) at inv)
+    where
+      alone : (t : Bool) → t ≡ pick t true false
+      alone true = refl
+      alone false = refl
+
+pub ruleset ascii-ways = (ascii-on, ascii-end)
 
 -- `code_at`
 pub extra-1 : (b : ℕ) → b < 192 → 0 ≡ extra b

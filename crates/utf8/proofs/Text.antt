@@ -14,7 +14,7 @@ use Rattle.base.specs.Pick.{pick, picks}
 use Rattle.base.specs.Lists.{drop-step, past-end}
 use Rattle.utf8.specs.declared.Due.{Due}
 use Rattle.utf8.specs.declared.Code.{Code}
-use Rattle.utf8.specs.Utf8.{first, extra, low, high, due, fits, after, wellFormedFrom, wellFormed, bits, codeOf, codesFrom, codes, codeAt, continues, insideCharacter}
+use Rattle.utf8.specs.Utf8.{first, extra, low, high, due, fits, after, wellFormedFrom, wellFormed, allAscii, bits, codeOf, codesFrom, codes, codeAt, continues, insideCharacter}
 use Rattle.utf8.proofs.Laws.{extra-1, extra-3, extra-4, len-is}
 
 never : {A : Type 0} → false ≡ true → A
@@ -28,6 +28,19 @@ both false x e = never e
 unless : (t x : Bool) → pick t false x ≡ true → (t ≡ false) × (x ≡ true)
 unless true x e = never e
 unless false x e = (refl, e)
+
+-- a text of ASCII is well formed
+ascii-from : (lo hi : ℕ) (l : List ℕ) → allAscii l ≡ true → wellFormedFrom (due 0 lo hi) l ≡ true
+unfolding allAscii wellFormedFrom fits after first extra
+ascii-from lo hi [] e = refl
+ascii-from lo hi (b ∷ l) e =
+    let p = both (ltb b 128) (allAscii l) e in
+    let h : b < 128 = ltb-true b 128 (p .0) in
+    rw (p .0, lt-ltb b 192 (omega arith)) (ascii-from (low b) (high b) l (p .1))
+
+pub ascii-formed : (l : List ℕ) (t : Bool) → t ≡ allAscii l → t ≡ true → true ≡ wellFormed l
+unfolding wellFormed
+ascii-formed l t e p = sym (ascii-from 128 191 l (sym e ∙ p))
 
 -- where none is due, a range says nothing
 start-same : (lo hi : ℕ) (l : List ℕ) → wellFormedFrom (due 0 lo hi) l ≡ wellFormed l

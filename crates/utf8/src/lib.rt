@@ -1,6 +1,8 @@
 // UTF-8: whether bytes are well formed, their code points, and the places between characters.
 ghost use mathlib.Core.Path.{_≡_};
-ghost use Rattle.utf8.specs.Utf8.{first as firstOf, extra as extraOf, low as lowOf, high as highOf, fits as fitsOf, after as afterOf, wellFormed, bits as bitsOf, codes, codeAt, allLatin1, continues as continuesOf, insideCharacter};
+ghost use lib.Dec.{ltb};
+ghost use Rattle.base.specs.Pick.{pick};
+ghost use Rattle.utf8.specs.Utf8.{first as firstOf, extra as extraOf, low as lowOf, high as highOf, fits as fitsOf, after as afterOf, wellFormed, allAscii, bits as bitsOf, codes, codeAt, allLatin1, continues as continuesOf, insideCharacter};
 
 // How many bytes of a character are due, and the range of the next one.
 struct Due {
@@ -103,8 +105,31 @@ impl Due {
     }
 }
 
-// Whether the bytes are well-formed UTF-8.
-pub fn well_formed(s: &[u8]) -> bool
+// The larger of two bytes.
+fn larger(a: u8, b: u8) -> u8
+    ensures { λ r. ⌜ r ≡ pick (ltb a b) b a ⌝ }
+{
+    if a < b {
+        return b;
+    }
+    a
+}
+
+// Whether every byte is ASCII: the largest is. No way out of the loop, so that it takes many bytes at a time.
+fn ascii(s: &[u8]) -> bool
+    ensures { λ r. ⌜ r ≡ allAscii (now (s .entry)) ⌝ }
+{
+    let mut m: u8 = 0;
+    let mut i = 0;
+    while i < s.len() {
+        m = larger(m, s[i]);
+        i += 1;
+    }
+    m < 128
+}
+
+// Whether the bytes are well-formed UTF-8, byte by byte.
+fn walk(s: &[u8]) -> bool
     ensures { λ r. ⌜ r ≡ wellFormed (now (s .entry)) ⌝ }
 {
     let mut d = Due {
@@ -122,6 +147,16 @@ pub fn well_formed(s: &[u8]) -> bool
         i += 1;
     }
     d.left == 0
+}
+
+// Whether the bytes are well-formed UTF-8: most texts are ASCII.
+pub fn well_formed(s: &[u8]) -> bool
+    ensures { λ r. ⌜ r ≡ wellFormed (now (s .entry)) ⌝ }
+{
+    if ascii(s) {
+        return true;
+    }
+    walk(s)
 }
 
 // The six low bits of the byte at a place.
