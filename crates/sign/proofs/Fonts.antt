@@ -24,7 +24,7 @@ use Rattle.sign.specs.declared.FontAt.{FontAt}
 use Rattle.sign.specs.declared.FontAt.the-variants.{Is, Not}
 use Rattle.sign.specs.declared.Outcome.the-variants.{Accepted, RefusedAt}
 use Rattle.sign.specs.declared.SignFile.{SignFile}
-use Rattle.sign.proofs.Laws.{all-split, all-no, marked-none, marked-more}
+use Rattle.sign.proofs.Laws.{all-split, all-no, zeros, marked-none, marked-more}
 
 -- a font by its record's shape, and by the fonts before
 font-test : (ns : List ℕ) (kind : ℕ) (body : List ℕ) → isFont ns kind body ≡ all (fontShape kind body ∷ not (member (getD body 0 0) ns) ∷ ltb (length ns) 24 ∷ [])
@@ -100,11 +100,6 @@ fine-stop ns b (Record at kind body ∷ ps) p q = go (eqb kind 2) (rest) refl (r
     go true u e r = rw (ne-eqb kind 3 (λ d. omega (arith, eqb-true kind 2 e)))
     go false u e r = never (let z : _≡_ {A = ℕ} 0 1 = cc in z)
 
-zeros : (n i : ℕ) → _≡_ {A = ℕ} (getD (replicate n 0) i 0) 0
-zeros zero i = refl
-zeros (suc n) zero = refl
-zeros (suc n) (suc i) = zeros n i
-
 length-none : (n : ℕ) → length (noFonts n) ≡ n
 unfolding noFonts
 length-none zero = refl
@@ -123,15 +118,15 @@ unfolding refusalAt
 refusal-is at fonts e = rw e
 
 -- the start: no font yet
-pub fonts-start : (file : List ℕ) (from : ℕ) (fonts : List FontEntry) → from ≤ length file → fonts ≡ noFonts 24 → Reading file from (replicate 256 0) (replicate 65536 0) fonts 0 from
-fonts-start file from fonts h z = record { ns = []; before = NoFont; few = refl; most = omega arith; inside = h; used-size = length-replicate {A = ℕ} 256 0; table-size = length-replicate {A = ℕ} 65536 0; fonts-size = ap length z ∙ length-none 24; unused = z; marked = marked-none 1 (replicate 256 0) (λ n. rw (zeros 256 n) (omega arith)); below = λ n. rw (zeros 65536 n) (omega arith); stop = none (piecesAt file from); fault = refl; listed = λ e. refl }
+pub fonts-start : (file : List ℕ) (from : ℕ) (fonts : List FontEntry) → from ≤ length file → fonts ≡ noFonts 24 → Reading file from (replicate 256 0) fonts 0 from
+fonts-start file from fonts h z = record { ns = []; before = NoFont; few = refl; most = omega arith; inside = h; used-size = length-replicate {A = ℕ} 256 0; fonts-size = ap length z ∙ length-none 24; unused = z; marked = marked-none (replicate 256 0) (zeros 256); stop = none (piecesAt file from); fault = refl; listed = λ e. refl }
   where
     none : (ps : List Piece) → stops NoFont ps ≡ true
     none [] = unfold stops in refl
     none (CutShort at ∷ ps) = unfold stops in refl
     none (Record at kind body ∷ ps) = unfold stops isCharacter in refl
 
-module _ (file : List ℕ) (from : ℕ) (used table : List ℕ) (fonts : List FontEntry) (count at : ℕ) (got : Reading file from used table fonts count at) where
+module _ (file : List ℕ) (from : ℕ) (used : List ℕ) (fonts : List FontEntry) (count at : ℕ) (got : Reading file from used fonts count at) where
   -- what is given where the next record fails
   fails : faultFrom (got .ns) (got .before) (piecesAt file at) ≡ FailsAt at → (c : Config) (r : SignFile) → r ≡ refusalAt at → r ≡ givenFrom file from c
   unfolding givenFrom
@@ -193,7 +188,7 @@ module _ (file : List ℕ) (from : ℕ) (used table : List ℕ) (fonts : List Fo
     past : at < f .first
     past = omega (arith, here .ends, head-start file at (here .kind) (here .start) (here .end) (here .head), head-from file at (here .kind) (here .start) (here .end) (here .head))
 
-    module _ (table′ : List ℕ) (n to : ℕ) (ran : Ran file (f .first) (f .height) (count + 1) table′ n to) where
+    module _ (n to : ℕ) (ran : Ran file (f .first) (f .height) n to) where
       pub fonts-less : length file - to < length file - at
       fonts-less = omega (arith, past, ran .run .onward, ran .run .inside)
 
@@ -244,8 +239,8 @@ module _ (file : List ℕ) (from : ℕ) (used table : List ℕ) (fonts : List Fo
             drop-set-lt (count + 1) fonts count (filled f n) (omega arith) ∙ sym (drop-drop 1 count fonts) ∙ ap (drop 1) (got .unused)
             ∙ drop-none (24 - count) (24 - (count + 1)) (omega (arith, got .most))
 
-        pub fonts-on : f .number < 256 → Reading file from (set used (f .number) 1) table′ (set fonts count (filled f n)) (count + 1) to
-        fonts-on k = record { ns = f .number ∷ got .ns; before = After (f .height) cs; few = omega (arith, got .few); most = omega (arith, got .most); inside = ran .run .inside; used-size = length-set used (f .number) 1 ∙ got .used-size; table-size = ran .run .size; fonts-size = length-set fonts count (filled f n) ∙ got .fonts-size; unused = unused; marked = marked-more 1 (f .number) (got .ns) used (rw (got .used-size) k) (got .marked); below = ran .run .marked .largest; stop = ran .stop; fault = got .fault ∙ step; listed = listed }
+        pub fonts-on : f .number < 256 → Reading file from (set used (f .number) 1) (set fonts count (filled f n)) (count + 1) to
+        fonts-on k = record { ns = f .number ∷ got .ns; before = After (f .height) cs; few = omega (arith, got .few); most = omega (arith, got .most); inside = ran .run .inside; used-size = length-set used (f .number) 1 ∙ got .used-size; fonts-size = length-set fonts count (filled f n) ∙ got .fonts-size; unused = unused; marked = marked-more (f .number) (got .ns) used (rw (got .used-size) k) (got .marked); stop = ran .stop; fault = got .fault ∙ step; listed = listed }
 
   pub fails-not : (s : FontAt) → s ≡ fontAt file at → s ≡ Not → at < length file → (c : Config) (r : SignFile) → r ≡ refusalAt at → r ≡ givenFrom file from c
   unfolding fontAt fontIn
@@ -262,7 +257,4 @@ module _ (file : List ℕ) (from : ℕ) (used table : List ℕ) (fonts : List Fo
       go (Whole kind start end) d e = inner kind start end (fontShape kind (part file start end)) d refl e
       go Short d e = rw (pieces-short file at h d) (fault-short (got .ns) (got .before) at)
 
-  pub row-below : (n : ℕ) → getD table n 0 < count + 1
-  row-below n = omega (arith, got .below n)
-
-pub ruleset fonts-ways = (fonts-start, fonts-end, fails-full, fails-used, fails-not, row-inside, row-below, fonts-less, fonts-on)
+pub ruleset fonts-ways = (fonts-start, fonts-end, fails-full, fails-used, fails-not, row-inside, fonts-less, fonts-on)

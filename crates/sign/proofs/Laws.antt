@@ -1,14 +1,14 @@
 -- The ways on and out of the reader's functions, as the code has them. Assumes nothing.
-use Prim.Native.Nat.{ℕ, suc, _+_, _-_, _*_, _/_, _≤_, _<_}
+use Prim.Native.Nat.{ℕ, zero, suc, _+_, _-_, _*_, _/_, _≤_, _<_}
 use mathlib.Core.Path.{_≡_, refl, sym, _∙_}
 use mathlib.Core.List.{List, [], _∷_, _++_}
 use mathlib.Core.Bool.{Bool, true, false, not}
 use native.Mathlib.Nat.{mul-le-mul, le-refl, le-of-lt, zero-add}
 use native.Mathlib.Omega.{arith}
 use lib.Dec.{ltb, eqb}
-use lib.ListN.{length, getD, set, length-set}
+use lib.ListN.{length, getD, set, replicate, length-set}
 use lib.Seq.{getD-set-same, getD-set-other}
-use borrow.Author.Tests.{lt-ltb, le-ltb, eq-eqb, ne-eqb, eqb-true, eqb-false}
+use borrow.Author.Tests.{lt-ltb, le-ltb, eq-eqb, ne-eqb, eqb-true, eqb-false, not-true}
 use Rattle.base.specs.Pick.{pick}
 use Rattle.records.specs.Record.{all, littleAt, Piece, Record, CutShort, piecesAt, headAt}
 use Rattle.records.specs.Config.{notZero}
@@ -16,12 +16,13 @@ use Rattle.records.proofs.Laws.{never, tests, head-start, head-from, head-to, p
 use Rattle.records.specs.declared.Head.{Head}
 use Rattle.records.specs.declared.Head.the-variants.{Whole, Short}
 use Rattle.sign.specs.Sign.{charactersOf, fontsOf, member, Before, After, adding, isFont, isCharacter, bitmapLen, faultFrom}
-use Rattle.sign.specs.Reading.{entryWith, fontEntry, part, fontShape, fontIn, fontAt, charShape, charIn, charBy, charAt, Marked, stops, Run, Ran}
+use Rattle.sign.specs.Reading.{entryWith, fontEntry, part, fontShape, fontIn, fontAt, charShape, charIn, charBy, charAt, Marked, stops, Run, Running, Ran, RowIn}
 use Rattle.sign.specs.declared.FontEntry.{FontEntry}
 use Rattle.sign.specs.declared.FontAt.{FontAt}
 use Rattle.sign.specs.declared.FontAt.the-variants.{Is, Not}
 use Rattle.sign.specs.declared.CharAt.{CharAt}
 use Rattle.sign.specs.declared.CharAt.the-variants.{Code, Other}
+use Rattle.sign.specs.declared.Row.{Row}
 
 -- a product of two bytes
 pub small : (a b : ℕ) → a < 256 → b < 256 → a * b ≤ 65536
@@ -124,38 +125,26 @@ member-same : (n : ℕ) (l : List ℕ) → member n (n ∷ l) ≡ true
 unfolding member
 member-same n l = rw (eq-eqb n n refl)
 
-pub marked-more : (m k : ℕ) (ns table : List ℕ) → k < length table → Marked m ns table → Marked m (k ∷ ns) (set table k m)
-marked-more m k ns table h g = record { at-number = at-number; largest = largest }
+pub marked-more : (k : ℕ) (ns table : List ℕ) → k < length table → Marked ns table → Marked (k ∷ ns) (set table k 1)
+marked-more k ns table h g = record { at-number = λ n. go n (eqb n k) refl }
   where
-    at-number : (n : ℕ) → member n (k ∷ ns) ≡ eqb (getD (set table k m) n 0) m
-    at-number n = go (eqb n k) refl
-      where
-        go : (t : Bool) → eqb n k ≡ t → member n (k ∷ ns) ≡ eqb (getD (set table k m) n 0) m
-        go true e =
-            let q : n ≡ k = eqb-true n k e in
-            rw (q, member-same k ns, getD-set-same table k m 0 h, eq-eqb m m refl)
-        go false e =
-            let q : n ≡ k → ⊥ = eqb-false n k e in
-            rw (member-other n k ns q, getD-set-other table k n m 0 q) (g .at-number n)
+    go : (n : ℕ) (t : Bool) → eqb n k ≡ t → member n (k ∷ ns) ≡ eqb (getD (set table k 1) n 0) 1
+    go n true e =
+        let q : n ≡ k = eqb-true n k e in
+        rw (q, member-same k ns, getD-set-same table k 1 0 h)
+    go n false e =
+        let q : n ≡ k → ⊥ = eqb-false n k e in
+        rw (member-other n k ns q, getD-set-other table k n 1 0 q) (g .at-number n)
 
-    largest : (n : ℕ) → getD (set table k m) n 0 ≤ m
-    largest n = go (eqb n k) refl
-      where
-        go : (t : Bool) → eqb n k ≡ t → getD (set table k m) n 0 ≤ m
-        go true e =
-            let q : n ≡ k = eqb-true n k e in
-            rw (q, getD-set-same table k m 0 h) (omega arith)
-        go false e =
-            let q : n ≡ k → ⊥ = eqb-false n k e in
-            rw (getD-set-other table k n m 0 q) (g .largest n)
+-- no number is marked yet
+pub zeros : (n i : ℕ) → _≡_ {A = ℕ} (getD (replicate n 0) i 0) 0
+zeros zero i = refl
+zeros (suc n) zero = refl
+zeros (suc n) (suc i) = zeros n i
 
--- no number is marked yet by a larger mark
-pub marked-none : (m : ℕ) (table : List ℕ) → ((n : ℕ) → getD table n 0 < m) → Marked m [] table
+pub marked-none : (table : List ℕ) → ((n : ℕ) → getD table n 0 ≡ 0) → Marked [] table
 unfolding member
-marked-none m table h = record { at-number = λ n. sym (ne-eqb (getD table n 0) m (λ q. below n q)); largest = λ n. le-of-lt (h n) }
-  where
-    below : (n : ℕ) → getD table n 0 ≡ m → ⊥
-    below n q = omega (arith, h n)
+marked-none table h = record { at-number = λ n. rw (h n) }
 
 -- tests of a record's shape, and tests by what came before
 pub all-split : (t : Bool) (ts : List Bool) (u : Bool) (us : List Bool) → all (t ∷ (ts ++ u ∷ us)) ≡ all (all (t ∷ ts) ∷ u ∷ us)
@@ -229,12 +218,24 @@ stops-end : (b : Before) → stops b [] ≡ true
 unfolding stops
 stops-end b = refl
 
-pub run-start : (file : List ℕ) (from height mark : ℕ) (table : List ℕ) → from ≤ length file → length table ≡ 65536 → ((n : ℕ) → getD table n 0 < mark) → Run file from height mark table 0 from
-run-start file from height mark table h z l = record { cs = []; few = refl; most = omega arith; onward = le-refl from; inside = h; size = z; marked = marked-none mark table l; fault = λ ns. refl; count = sym (zero-add (length (charactersOf (piecesAt file from)))); fonts = refl }
+pub run-start : (file : List ℕ) (from height : ℕ) (table : List ℕ) → from ≤ length file → ((n : ℕ) → getD table n 0 ≡ 0) → Running file from height (length table) table 0 from
+run-start file from height table h z = record { run = run; marked = marked-none table z; same = refl }
+  where
+    run : Run file from height 0 from
+    run = record { cs = []; few = refl; most = omega arith; onward = le-refl from; inside = h; fault = λ ns. refl; count = sym (zero-add (length (charactersOf (piecesAt file from)))); fonts = refl }
 
-module _ (file : List ℕ) (from height mark n at : ℕ) (table : List ℕ) (run : Run file from height mark table n at) where
+abbrev row : ℕ → ℕ → Bool → Row
+row n at w = record { n = n; at = at; wide = w }
+
+module _ (file : List ℕ) (from height size n at : ℕ) (table : List ℕ) (so : Running file from height size table n at) where
+  abbrev run : Run file from height n at
+  run = so .run
+
   abbrev cs : List ℕ
   cs = run .cs
+
+  ended : stops (After height cs) (piecesAt file at) ≡ true → RowIn file from height size (row n at false)
+  ended e = record { ran = λ p. record { run = run; stop = e }; narrow = λ h. refl }
 
   -- the record at the offset has the shape of a character
   module _ (s : CharAt) (p : s ≡ charAt file at height) (code end : ℕ) (q : s ≡ Code code end) where
@@ -247,8 +248,8 @@ module _ (file : List ℕ) (from height mark n at : ℕ) (table : List ℕ) (run
     next : piecesAt file at ≡ Record at (here .kind) body ∷ piecesAt file end
     next = pieces-next file at (here .kind) (here .start) end (here .head)
 
-    test : isCharacter (After height cs) (here .kind) body ≡ all (not (eqb (getD table code 0) mark) ∷ ltb n 256 ∷ [])
-    test = rw (character-is height (here .kind) cs body, here .shape, here .number, run .marked .at-number code, run .few)
+    test : isCharacter (After height cs) (here .kind) body ≡ all (not (eqb (getD table code 0) 1) ∷ ltb n 256 ∷ [])
+    test = rw (character-is height (here .kind) cs body, here .shape, here .number, so .marked .at-number code, run .few)
 
     no-font : here .kind ≡ 2 → ⊥
     no-font e = omega (arith, here .is-kind)
@@ -256,11 +257,11 @@ module _ (file : List ℕ) (from height mark n at : ℕ) (table : List ℕ) (run
     pub run-less : length file - end < length file - at
     run-less = omega (arith, head-start file at (here .kind) (here .start) end (here .head), head-from file at (here .kind) (here .start) end (here .head), head-to file at (here .kind) (here .start) end (here .head))
 
-    pub run-on : (n ≡ 256 → ⊥) → (getD table code 0 ≡ mark → ⊥) → code < 65536 → Run file from height mark (set table code mark) (n + 1) end
-    run-on f u l = record { cs = code ∷ cs; few = omega (arith, run .few); most = omega (arith, run .most); onward = omega (arith, run .onward, head-start file at (here .kind) (here .start) end (here .head), head-from file at (here .kind) (here .start) end (here .head)); inside = head-to file at (here .kind) (here .start) end (here .head); size = length-set table code mark ∙ run .size; marked = marked-more mark code cs table (rw (run .size) l) (run .marked); fault = fault; count = count; fonts = fonts }
+    pub run-on : (n ≡ 256 → ⊥) → code < length table → (getD table code 0 ≡ 1 → ⊥) → Running file from height size (set table code 1) (n + 1) end
+    run-on f l u = record { run = on; marked = marked-more code cs table l (so .marked); same = length-set table code 1 ∙ so .same }
       where
         good : isCharacter (After height cs) (here .kind) body ≡ true
-        good = rw (test, ne-eqb (getD table code 0) mark u, lt-ltb n 256 (omega (arith, run .most)))
+        good = rw (test, ne-eqb (getD table code 0) 1 u, lt-ltb n 256 (omega (arith, run .most)))
 
         fault : (ns : List ℕ) → faultFrom ns (After height []) (piecesAt file from) ≡ faultFrom ns (After height (code ∷ cs)) (piecesAt file end)
         fault ns = run .fault ns ∙ rw next (fault-char ns (After height cs) at (here .kind) body (piecesAt file end) code (here .number) (not-font ns (here .kind) body no-font) good)
@@ -273,18 +274,24 @@ module _ (file : List ℕ) (from height mark n at : ℕ) (table : List ℕ) (run
         fonts : fontsOf (piecesAt file from) ≡ fontsOf (piecesAt file end)
         fonts = run .fonts ∙ rw next (fonts-other at (here .kind) body (piecesAt file end) no-font)
 
-    bad : isCharacter (After height cs) (here .kind) body ≡ false → Ran file from height mark table n at
-    bad e = record { run = run; stop = rw next (stops-here (After height cs) at (here .kind) body (piecesAt file end) e) }
+        on : Run file from height (n + 1) end
+        on = record { cs = code ∷ cs; few = omega (arith, run .few); most = omega (arith, run .most); onward = omega (arith, run .onward, head-start file at (here .kind) (here .start) end (here .head), head-from file at (here .kind) (here .start) end (here .head)); inside = head-to file at (here .kind) (here .start) end (here .head); fault = fault; count = count; fonts = fonts }
 
-    pub ran-full : n ≡ 256 → Ran file from height mark table n at
-    ran-full e = bad (rw (test, le-ltb n 256 (omega arith)) (all-no (not (eqb (getD table code 0) mark))))
+    bad : isCharacter (After height cs) (here .kind) body ≡ false → RowIn file from height size (row n at false)
+    bad e = ended (rw next (stops-here (After height cs) at (here .kind) body (piecesAt file end) e))
 
-    pub ran-used : getD table code 0 ≡ mark → Ran file from height mark table n at
-    ran-used e = bad (rw (test, eq-eqb (getD table code 0) mark e))
+    pub ran-full : n ≡ 256 → RowIn file from height size (row n at false)
+    ran-full e = bad (rw (test, le-ltb n 256 (omega arith)) (all-no (not (eqb (getD table code 0) 1))))
 
-  pub ran-other : (s : CharAt) → s ≡ charAt file at height → s ≡ Other → at < length file → Ran file from height mark table n at
+    pub ran-used : getD table code 0 ≡ 1 → RowIn file from height size (row n at false)
+    ran-used e = bad (rw (test, eq-eqb (getD table code 0) 1 e))
+
+    pub ran-wide : length table ≤ code → code < 65536 → RowIn file from height size (row n at true)
+    ran-wide h l = record { ran = λ p. never (let z : _≡_ {A = ℕ} 0 1 = cc in z); narrow = λ g. absurd (omega (arith, so .same)) }
+
+  pub ran-other : (s : CharAt) → s ≡ charAt file at height → s ≡ Other → at < length file → RowIn file from height size (row n at false)
   unfolding charAt charIn
-  ran-other s p q h = record { run = run; stop = go (headAt file at) refl (sym p ∙ q) }
+  ran-other s p q h = ended (go (headAt file at) refl (sym p ∙ q))
     where
       inner : (kind start end : ℕ) (t : Bool) → headAt file at ≡ Whole kind start end → charShape height kind (part file start end) ≡ t → pick t (Code (littleAt 2 0 (part file start end)) end) Other ≡ Other → stops (After height cs) (piecesAt file at) ≡ true
       inner kind start end true d e f = never (let z : _≡_ {A = ℕ} 0 1 = cc in z)
@@ -296,7 +303,17 @@ module _ (file : List ℕ) (from height mark n at : ℕ) (table : List ℕ) (run
       go (Whole kind start end) d e = inner kind start end (charShape height kind (part file start end)) d refl e
       go Short d e = rw (pieces-short file at h d) (stops-short (After height cs) at)
 
-  pub ran-end : length file ≤ at → Ran file from height mark table n at
-  ran-end h = record { run = run; stop = rw (pieces-end file at h) (stops-end (After height cs)) }
+  pub ran-end : length file ≤ at → RowIn file from height size (row n at false)
+  ran-end h = ended (rw (pieces-end file at h) (stops-end (After height cs)))
 
-pub ruleset row-ways = (run-start, run-on, ran-full, ran-used, run-less, ran-other, ran-end)
+pub ruleset row-ways = (run-start, run-on, ran-full, ran-wide, ran-used, run-less, ran-other, ran-end)
+
+-- `row_of`
+module _ (file : List ℕ) (from height : ℕ) (r : Row) where
+  pub row-small : (size : ℕ) → RowIn file from height size r → not (r .wide) ≡ true → Ran file from height (r .n) (r .at)
+  row-small size d e = d .ran (not-true (r .wide) e)
+
+  pub row-whole : (table : List ℕ) → RowIn file from height (length table) r → length table ≡ 65536 → Ran file from height (r .n) (r .at)
+  row-whole table d e = d .ran (d .narrow (omega arith))
+
+pub ruleset row-of-ways = (row-small, row-whole, zeros)

@@ -2,7 +2,7 @@
 use Prim.Native.Nat.{ℕ, _+_, _-_, _≤_}
 use mathlib.Core.Path.{_≡_}
 use mathlib.Core.List.{List, [], _∷_, _++_, map}
-use mathlib.Core.Bool.{Bool, true, not}
+use mathlib.Core.Bool.{Bool, true, false, not}
 use lib.Dec.{eqb}
 use lib.ListN.{length, getD, take, drop}
 use Rattle.base.specs.Pick.{pick}
@@ -17,6 +17,7 @@ use Rattle.sign.specs.declared.FontAt.{FontAt}
 use Rattle.sign.specs.declared.FontAt.the-variants.{Is, Not}
 use Rattle.sign.specs.declared.CharAt.{CharAt}
 use Rattle.sign.specs.declared.CharAt.the-variants.{Code, Other}
+use Rattle.sign.specs.declared.Row.{Row}
 use Rattle.sign.specs.Given.{entryOf, noFonts, given}
 use Rattle.sign.specs.declared.SignFile.{SignFile}
 
@@ -68,10 +69,9 @@ charBy file height Short = Other
 unfoldable pub charAt : List ℕ → ℕ → ℕ → CharAt
 charAt file at height = charBy file height (headAt file at)
 
--- a table by number: m stands at the numbers of ns, and nowhere a larger one
-pub record Marked (m : ℕ) (ns table : List ℕ) : Type 0 where
-  pub at-number : (n : ℕ) → member n ns ≡ eqb (getD table n 0) m
-  pub largest : (n : ℕ) → getD table n 0 ≤ m
+-- a table by number: 1 stands at the numbers of ns and nowhere else
+pub record Marked (ns table : List ℕ) : Type 0 where
+  pub at-number : (n : ℕ) → member n ns ≡ eqb (getD table n 0) 1
 
 -- the records from an offset on start with no character by the rules
 unfoldable pub stops : Before → List Piece → Bool
@@ -80,36 +80,43 @@ stops b (CutShort at ∷ ps) = true
 stops b (Record at kind body ∷ ps) = not (isCharacter b kind body)
 
 -- n characters were read, from an offset on, and the next record is at `at`: cs are their numbers
-pub record Run (file : List ℕ) (from height mark : ℕ) (table : List ℕ) (n at : ℕ) : Type 0 where
+pub record Run (file : List ℕ) (from height n at : ℕ) : Type 0 where
   pub cs : List ℕ
   pub few : length cs ≡ n
   pub most : n ≤ 256
   pub onward : from ≤ at
   pub inside : at ≤ length file
-  pub size : length table ≡ 65536
-  pub marked : Marked mark cs table
   pub fault : (ns : List ℕ) → faultFrom ns (After height []) (piecesAt file from) ≡ faultFrom ns (After height cs) (piecesAt file at)
   pub count : length (charactersOf (piecesAt file from)) ≡ n + length (charactersOf (piecesAt file at))
   pub fonts : fontsOf (piecesAt file from) ≡ fontsOf (piecesAt file at)
 
 -- the same, where the next record is no character
-pub record Ran (file : List ℕ) (from height mark : ℕ) (table : List ℕ) (n at : ℕ) : Type 0 where
-  pub run : Run file from height mark table n at
+pub record Ran (file : List ℕ) (from height n at : ℕ) : Type 0 where
+  pub run : Run file from height n at
   pub stop : stops (After height (run .cs)) (piecesAt file at) ≡ true
 
+-- n characters were read, with their numbers in a table of a size
+pub record Running (file : List ℕ) (from height size : ℕ) (table : List ℕ) (n at : ℕ) : Type 0 where
+  pub run : Run file from height n at
+  pub marked : Marked (run .cs) table
+  pub same : length table ≡ size
+
+-- what is read with a table of a size: the row, or it is too wide, as no row is for 65,536
+pub record RowIn (file : List ℕ) (from height size : ℕ) (r : Row) : Type 0 where
+  pub ran : r .wide ≡ false → Ran file from height (r .n) (r .at)
+  pub narrow : 65536 ≤ size → r .wide ≡ false
+
 -- count fonts were read, from an offset on, and the next record is at `at`: ns are their numbers
-pub record Reading (file : List ℕ) (from : ℕ) (used table : List ℕ) (fonts : List FontEntry) (count at : ℕ) : Type 0 where
+pub record Reading (file : List ℕ) (from : ℕ) (used : List ℕ) (fonts : List FontEntry) (count at : ℕ) : Type 0 where
   pub ns : List ℕ
   pub before : Before
   pub few : length ns ≡ count
   pub most : count ≤ 24
   pub inside : at ≤ length file
   pub used-size : length used ≡ 256
-  pub table-size : length table ≡ 65536
   pub fonts-size : length fonts ≡ 24
   pub unused : drop count fonts ≡ noFonts (24 - count)
-  pub marked : Marked 1 ns used
-  pub below : (n : ℕ) → getD table n 0 ≤ count
+  pub marked : Marked ns used
   pub stop : stops before (piecesAt file at) ≡ true
   pub fault : faultFrom [] NoFont (piecesAt file from) ≡ faultFrom ns before (piecesAt file at)
   pub listed : faultFrom ns before (piecesAt file at) ≡ Fine → map entryOf (fontsOf (piecesAt file from)) ≡ take count fonts ++ map entryOf (fontsOf (piecesAt file at))

@@ -7,7 +7,7 @@ ghost use Prim.Native.Nat.{ℕ, _≤_, _<_};
 ghost use lib.ListN.{length, getD};
 ghost use Rattle.sign.specs.Sign.{bitmapLen, signFile};
 ghost use Rattle.sign.specs.Given.{noFonts, refusalAt, given};
-ghost use Rattle.sign.specs.Reading.{fontEntry, fontIn, fontAt, charIn, charAt, Ran, givenFrom};
+ghost use Rattle.sign.specs.Reading.{fontEntry, fontIn, fontAt, charIn, charAt, Ran, RowIn, givenFrom};
 
 // A font of the file: its values, the offset of its first character's record, and how many it has.
 pub struct FontEntry {
@@ -43,10 +43,11 @@ pub enum CharAt {
     Other,
 }
 
-// How many characters there are in a row, and the offset past them.
+// n characters in a row, and the offset past them. wide: the next one's number is past the table.
 pub struct Row {
-    pub count: usize,
-    pub next: usize,
+    pub n: usize,
+    pub at: usize,
+    pub wide: bool,
 }
 
 // The bytes of a bitmap.
@@ -131,31 +132,47 @@ fn char_at(file: &[u8], at: usize, height: u8) -> CharAt
     }
 }
 
-// The characters of a font, in a row: the table has at a number the place of the font in which it was last used.
-fn read_row(file: &[u8], from: usize, height: u8, place: u8, table: &mut [u8; 65536]) -> Row
+// The characters of a font, in a row: the table has 1 at the numbers that were used.
+fn read_row(file: &[u8], from: usize, height: u8, table: &mut [u8]) -> Row
     requires { ⌜ from ≤ length (now file) ⌝ }
-    requires { ⌜ length (now table) ≡ 65536 ⌝ }
-    requires { ⌜ ((n : ℕ) → getD (now table) n 0 < place) ⌝ }
-    ensures { λ r. ⌜ Ran (now (file .entry)) from height place (now (table .exit)) (r .count) (r .next) ⌝ }
+    requires { ⌜ ((n : ℕ) → getD (now table) n 0 ≡ 0) ⌝ }
+    ensures { λ r. ⌜ RowIn (now (file .entry)) from height (length (now (table .entry))) r ⌝ }
 {
     let mut n: usize = 0;
     let mut at = from;
     while at < file.len() {
         let CharAt::Code(code, end) = char_at(file, at, height) else {
-            return Row { count: n, next: at };
+            return Row { n, at, wide: false };
         };
         if n == 256 {
-            return Row { count: n, next: at };
+            return Row { n, at, wide: false };
         }
         let k = code as usize;
-        if table[k] == place {
-            return Row { count: n, next: at };
+        if table.len() <= k {
+            return Row { n, at, wide: true };
         }
-        table[k] = place;
+        if table[k] == 1 {
+            return Row { n, at, wide: false };
+        }
+        table[k] = 1;
         n += 1;
         at = end;
     }
-    Row { count: n, next: at }
+    Row { n, at, wide: false }
+}
+
+// The same for any numbers, first with a small table: to clear the whole one takes longer than most files do.
+fn row_of(file: &[u8], from: usize, height: u8) -> Row
+    requires { ⌜ from ≤ length (now file) ⌝ }
+    ensures { λ r. ⌜ Ran (now (file .entry)) from height (r .n) (r .at) ⌝ }
+{
+    let mut small = [0u8; 256];
+    let row = read_row(file, from, height, &mut small);
+    if !row.wide {
+        return row;
+    }
+    let mut table = [0u8; 65536];
+    read_row(file, from, height, &mut table)
 }
 
 // A table with no font.
@@ -203,7 +220,6 @@ fn read_fonts(file: &[u8], from: usize, config: Config) -> SignFile
     requires { ⌜ from ≤ length (now file) ⌝ }
     ensures { λ r. ⌜ r ≡ givenFrom (now (file .entry)) from config ⌝ }
 {
-    let mut table = [0u8; 65536];
     let mut used = [0u8; 256];
     let mut fonts = no_fonts();
     let mut count: usize = 0;
@@ -220,12 +236,12 @@ fn read_fonts(file: &[u8], from: usize, config: Config) -> SignFile
             return refused(at);
         }
         used[k] = 1;
-        let row = read_row(file, f.first, f.height, count as u8 + 1, &mut table);
+        let row = row_of(file, f.first, f.height);
         let mut entry = f;
-        entry.characters = row.count;
+        entry.characters = row.n;
         fonts[count] = entry;
         count += 1;
-        at = row.next;
+        at = row.at;
     }
     SignFile {
         outcome: Outcome::Accepted,
