@@ -10,16 +10,19 @@ use lib.Seq.{take-length, take-nil}
 use borrow.Author.Tests.{eq-eqb, ne-eqb, leb-true, leb-false}
 use Rattle.base.specs.Pick.{pick}
 use Rattle.records.specs.Record.{littleAt, Record, piecesAt, headAt}
-use Rattle.records.proofs.Laws.{never, head-start, pieces-next, pieces-short, pieces-end}
+use Rattle.records.proofs.Laws.{never, head-start, pieces-next, pieces-short, pieces-end, spans}
 use Rattle.records.specs.declared.Head.{Head}
 use Rattle.records.specs.declared.Head.the-variants.{Whole, Short}
 use Rattle.sign.specs.Sign.{Character, Font, charactersOf, bitmapLen}
 use Rattle.sign.specs.Reading.{part}
 use Rattle.sign.specs.Given.{entryOf}
 use Rattle.sign.specs.Accepted.{Each, each-none, each-more, GoodCharacter, GoodFont}
-use Rattle.font.specs.Character.{lookup, characterIn, charactersAt}
+use Rattle.font.specs.Character.{lookup, characterIn, charactersAt, characterIs, charactersBy}
 use Rattle.font.specs.declared.Found.{Found}
 use Rattle.font.specs.declared.Found.the-variants.{Is, Missing}
+use Rattle.font.specs.declared.Letter.{Letter}
+use Rattle.font.specs.declared.Next.{Next}
+use Rattle.font.specs.declared.Next.the-variants.{Is as Here, End}
 
 none-short : (file : List ℕ) (at : ℕ) → headAt file at ≡ Short → charactersOf (piecesAt file at) ≡ []
 unfolding charactersOf
@@ -29,57 +32,84 @@ none-short file at e = go (leb (length file) at) refl
     go true p = rw (pieces-end file at (leb-true (length file) at p))
     go false p = rw (pieces-short file at (leb-false (length file) at p) e)
 
-lookup-none : (code n : ℕ) → lookup code (take n []) ≡ Missing
-unfolding lookup
-lookup-none code n = rw (take-nil {A = Character} n)
+-- `next_character`: body is what stands in the record
+module _ (file : List ℕ) (at : ℕ) (s : Head) (p : s ≡ headAt file at) where
+  pub next-short : s ≡ Short → charactersOf (piecesAt file at) ≡ []
+  next-short q = none-short file at (sym p ∙ q)
 
-module _ (file : List ℕ) (at count n code : ℕ) (w : Found) (inv : lookup code (take (count - n) (charactersOf (piecesAt file at))) ≡ w) where
-  -- no character is left
-  ended : charactersOf (piecesAt file at) ≡ [] → Missing ≡ w
-  ended e = sym (lookup-none code (count - n)) ∙ (rw e at inv)
+  module _ (kind start end : ℕ) (q : s ≡ Whole kind start end) where
+    abbrev body : List ℕ
+    body = part file start end
 
-  pub find-end : count ≤ n → Missing ≡ w
-  unfolding lookup
-  find-end h =
-      let e : count - n ≡ 0 = omega arith in
-      rw e at inv
+    next : piecesAt file at ≡ Record at kind body ∷ piecesAt file end
+    next = pieces-next file at kind start end (sym p ∙ q)
 
-  module _ (h : n < count) (s : Head) (p : s ≡ headAt file at) where
-    pub find-short : s ≡ Short → Missing ≡ w
-    find-short q = ended (none-short file at (sym p ∙ q))
+    pub next-kind : (kind ≡ 3 → ⊥) → charactersOf (piecesAt file at) ≡ []
+    unfolding charactersOf
+    next-kind k = rw (next, ne-eqb kind 3 k)
 
-    module _ (kind start end : ℕ) (q : s ≡ Whole kind start end) where
-      abbrev body : List ℕ
-      body = part file start end
+    pub next-is : kind ≡ 3 → (x y : ℕ) → x ≡ littleAt 2 0 body → y ≡ getD body 2 0 → charactersOf (piecesAt file at) ≡ record { number = x; width = y; bitmap = start + 3 } ∷ charactersOf (piecesAt file end)
+    unfolding charactersOf
+    next-is k x y e f =
+        let to : start + 3 ≡ at + 7 = omega (arith, head-start file at kind start end (sym p ∙ q)) in
+        rw (next, eq-eqb kind 3 k, to, e, f)
 
-      next : piecesAt file at ≡ Record at kind body ∷ piecesAt file end
-      next = pieces-next file at kind start end (sym p ∙ q)
+pub ruleset next-ways = (spans, next-short, next-kind, next-is)
 
-      pub find-kind : (kind ≡ 3 → ⊥) → Missing ≡ w
-      unfolding charactersOf
-      find-kind k = ended (rw (next, ne-eqb kind 3 k))
+-- the characters from a record on, of those of a font that n are past
+abbrev pub rest : List ℕ → ℕ → ℕ → ℕ → List Character
+rest file at count n = take (count - n) (charactersOf (piecesAt file at))
 
-      module _ (k : kind ≡ 3) (x : ℕ) (e : x ≡ littleAt 2 0 body) where
-        here : pick (eqb x code) (Is (getD body 2 0) (at + 7)) (lookup code (take (count - (n + 1)) (charactersOf (piecesAt file end)))) ≡ w
-        unfolding charactersOf lookup
-        here =
-            let more : count - n ≡ suc (count - (n + 1)) = omega arith in
-            rw e (rw (more, next, eq-eqb kind 3 k) at inv)
-
-        pub find-is : x ≡ code → (y : ℕ) → y ≡ getD body 2 0 → Is y (start + 3) ≡ w
-        find-is d y f =
-            let to : start + 3 ≡ at + 7 = omega (arith, head-start file at kind start end (sym p ∙ q)) in
-            rw (to, f) (rw (eq-eqb x code d) at here)
-
-        pub find-on : (x ≡ code → ⊥) → lookup code (take (count - (n + 1)) (charactersOf (piecesAt file end))) ≡ w
-        find-on d = rw (ne-eqb x code d) at here
-
-pub find-start : (count code : ℕ) (chs : List Character) → lookup code (take (count - 0) chs) ≡ lookup code (take count chs)
-find-start count code chs =
+pub rest-all : (file : List ℕ) (at count : ℕ) → rest file at count 0 ≡ take count (charactersOf (piecesAt file at))
+rest-all file at count =
     let e : count - 0 ≡ count = omega arith in
     rw e
 
-pub ruleset find-ways = (find-start, find-end, find-short, find-kind, find-is, find-on)
+module _ (file : List ℕ) (at count n : ℕ) where
+  pub rest-past : count ≤ n → rest file at count n ≡ []
+  rest-past h =
+      let e : count - n ≡ 0 = omega arith in
+      rw e
+
+  -- s is what `next_character` answers
+  module _ (s : Next) (p : charactersOf (piecesAt file at) ≡ charactersBy file s) where
+    pub rest-none : s ≡ End → rest file at count n ≡ []
+    rest-none q = rw (p, q) (take-nil {A = Character} (count - n))
+
+    pub rest-more : n < count → (ch : Letter) → s ≡ Here ch → rest file at count n ≡ characterIs ch ∷ rest file (ch .end) count (n + 1)
+    rest-more h ch q =
+        let more : count - n ≡ suc (count - (n + 1)) = omega arith in
+        rw (more, p, q)
+
+-- `find`
+module _ (file : List ℕ) (at count n code : ℕ) (w : Found) (inv : lookup code (rest file at count n) ≡ w) where
+  -- no character is left
+  ended : rest file at count n ≡ [] → Missing ≡ w
+  unfolding lookup
+  ended e = rw e at inv
+
+  pub find-end : count ≤ n → Missing ≡ w
+  find-end h = ended (rest-past file at count n h)
+
+  module _ (h : n < count) (s : Next) (p : charactersOf (piecesAt file at) ≡ charactersBy file s) where
+    pub find-none : s ≡ End → Missing ≡ w
+    find-none q = ended (rest-none file at count n s p q)
+
+    module _ (ch : Letter) (q : s ≡ Here ch) where
+      here : pick (eqb (ch .number) code) (Is (ch .width) (ch .bitmap)) (lookup code (rest file (ch .end) count (n + 1))) ≡ w
+      unfolding lookup
+      here = rw (rest-more file at count n s p h ch q) at inv
+
+      pub find-is : ch .number ≡ code → Is (ch .width) (ch .bitmap) ≡ w
+      find-is d = rw (eq-eqb (ch .number) code d) at here
+
+      pub find-on : (ch .number ≡ code → ⊥) → lookup code (rest file (ch .end) count (n + 1)) ≡ w
+      find-on d = rw (ne-eqb (ch .number) code d) at here
+
+pub find-start : (file : List ℕ) (at count code : ℕ) → lookup code (rest file at count 0) ≡ lookup code (take count (charactersOf (piecesAt file at)))
+find-start file at count code = rw (rest-all file at count)
+
+pub ruleset find-ways = (find-start, find-end, find-none, find-is, find-on)
 
 -- with code 0
 module _ (code : ℕ) (chs : List Character) where

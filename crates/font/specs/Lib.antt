@@ -1,2 +1,3 @@
 pub mod Table
 pub mod Character
+pub mod Widths

@@ -1,11 +1,11 @@
 -- The ways on and out of the loop over a text. Assumes nothing.
-use Prim.Native.Nat.{ℕ, zero, suc, _+_, _*_, _≤_, _<_}
-use mathlib.Core.Path.{_≡_, refl}
+use Prim.Native.Nat.{ℕ, zero, suc, _+_, _-_, _*_, _≤_, _<_}
+use mathlib.Core.Path.{_≡_, refl, sym, _∙_}
 use mathlib.Core.List.{List, [], _∷_}
 use mathlib.Core.Bool.{Bool, true, false}
 use native.Mathlib.Omega.{arith}
 use lib.Dec.{ltb, eqb}
-use lib.ListN.{length, take, drop}
+use lib.ListN.{length, getD, take, drop}
 use lib.Seq.{take-all}
 use borrow.Author.Tests.{lt-ltb, le-ltb, ne-eqb}
 use Rattle.base.specs.Pick.{pick}
@@ -18,6 +18,7 @@ use Rattle.sign.specs.Accepted.{Each, each-none, each-more, Bytes}
 use Rattle.sign.specs.declared.FontEntry.{FontEntry}
 use Rattle.sign.proofs.Accepted.{bytes-take, bytes-drop, word}
 use Rattle.font.specs.Character.{lookup, characterIn, charactersAt}
+use Rattle.font.specs.Widths.{widthIn, Widths}
 use Rattle.font.specs.declared.Found.{Found}
 use Rattle.font.specs.declared.Found.the-variants.{Is, Missing as Absent}
 use Rattle.measure.specs.Measure.{widened, after, widthAfter, textWidth}
@@ -77,7 +78,35 @@ module _ (w spacing more s m : ℕ) (p : s ≡ spacing) (q : m ≡ more) where
 
 pub ruleset wider-ways = (wider-more, wider-first)
 
--- `short_width`
+-- `width_in`
+module _ (chs : List Character) (code : ℕ) where
+  module _ (table : List ℕ) (g : Widths chs table) (h : code < length table) where
+    pub in-table : getD table code 0 ≡ widthIn (characterIn code chs)
+    in-table = g .at-code code h
+
+    pub in-small : getD table code 0 ≤ 256
+    in-small = g .small code h
+
+  module _ (f : Found) (p : f ≡ characterIn code chs) where
+    pub in-none : f ≡ Absent → 0 ≡ widthIn (characterIn code chs)
+    in-none q = rw (← p, q)
+
+    pub in-some : (width bitmap : ℕ) → f ≡ Is width bitmap → (x : ℕ) → x ≡ width → x + 1 ≡ widthIn (characterIn code chs)
+    in-some width bitmap q x e = rw (← p, q, e)
+
+pub ruleset in-ways = (in-table, in-small, in-none, in-some)
+
+-- `width_by`
+after-none : (f : Found) (code : ℕ) (on : ℕ → Measure) → 0 ≡ widthIn f → after f code on ≡ Missing code
+after-none (Is more bitmap) code on e = absurd (omega arith)
+after-none Absent code on e = refl
+
+after-some : (f : Found) (code : ℕ) (on : ℕ → Measure) (x : ℕ) → x ≡ widthIn f → (x ≡ 0 → ⊥) → after f code on ≡ on (x - 1)
+after-some (Is more bitmap) code on x e n =
+    let d : x - 1 ≡ more = omega arith in
+    rw d
+after-some Absent code on x e n = absurd (n e)
+
 widened-le : (w spacing more : ℕ) → spacing < 65536 → more < 256 → widened w spacing more ≤ w + 65790
 unfolding widened
 widened-le w spacing more h k = go (ltb 0 w)
@@ -91,16 +120,19 @@ module _ (text : List ℕ) (at w : ℕ) (chs : List Character) (spacing : ℕ) (
   unfolding widthAfter
   width-end h = rw (codes-end text at h) at inv
 
-  module _ (h : at < length text) (r : Code) (e : r ≡ codeAt text at) (f : Found) (p : f ≡ characterIn (r .code) chs) where
-    here : after f (r .code) (λ more. widthAfter chs spacing (widened w spacing more) (codes (drop (at + r .len) text))) ≡ m
+  module _ (h : at < length text) (r : Code) (e : r ≡ codeAt text at) (x : ℕ) (p : x ≡ widthIn (characterIn (r .code) chs)) where
+    abbrev on : ℕ → Measure
+    on more = widthAfter chs spacing (widened w spacing more) (codes (drop (at + r .len) text))
+
+    here : after (characterIn (r .code) chs) (r .code) on ≡ m
     unfolding widthAfter
-    here = rw p (rw (codes-next text at r e h) at inv)
+    here = rw (codes-next text at r e h) at inv
 
-    pub width-missing : f ≡ Absent → Missing (r .code) ≡ m
-    width-missing q = rw q at here
+    pub width-missing : x ≡ 0 → Missing (r .code) ≡ m
+    width-missing z = sym (after-none (characterIn (r .code) chs) (r .code) on (sym z ∙ p)) ∙ here
 
-    pub width-on : (more bitmap : ℕ) → f ≡ Is more bitmap → (v : ℕ) → v ≡ widened w spacing more → widthAfter chs spacing v (codes (drop (at + r .len) text)) ≡ m
-    width-on more bitmap q v d = rw d (rw q at here)
+    pub width-on : (x ≡ 0 → ⊥) → (v : ℕ) → v ≡ widened w spacing (x - 1) → widthAfter chs spacing v (codes (drop (at + r .len) text)) ≡ m
+    width-on n v d = rw d (sym (after-some (characterIn (r .code) chs) (r .code) on x p n) ∙ here)
 
 -- the width is at most 65,790 for each byte
 pub width-fits : (text : List ℕ) (at w spacing more v : ℕ) (r : Code) → r ≡ codeAt text at → v ≡ widened w spacing more → spacing < 65536 → more < 256 → w ≤ 65790 * at → v ≤ 65790 * (at + r .len)

@@ -6,6 +6,7 @@ ghost use Prim.Native.Nat.{_*_, _≤_, _<_};
 ghost use lib.ListN.{length, take};
 ghost use Rattle.utf8.specs.Utf8.{codes};
 ghost use Rattle.font.specs.Character.{characterIn, charactersAt};
+ghost use Rattle.font.specs.Widths.{widthIn, Widths};
 ghost use Rattle.measure.specs.Measure.{widened, textWidth};
 
 // A text's width, or the code of its first character that the font does not define.
@@ -31,20 +32,36 @@ fn wide16(x: u16) -> u32
 }
 
 // A width with one character more.
-fn wider(width: u32, spacing: u16, more: u8) -> u32
+fn wider(width: u32, spacing: u16, more: u16) -> u32
     requires { ⌜ width ≤ 65790 * 65000 ⌝ }
     ensures { λ r. ⌜ r ≡ widened width spacing more ⌝ }
 {
     let s = wide16(spacing);
-    let m = base::wide32(more);
+    let m = wide16(more);
     if 0 < width {
         return width + (s + m);
     }
     m
 }
 
-// The width of a short text.
-pub fn short_width(file: &[u8], entry: FontEntry, text: &[u8], spacing: u16) -> Measure
+// A character's width and 1, or 0 for one that is missing; the table has those of the codes below its length.
+fn width_in(file: &[u8], entry: FontEntry, table: &[u16], code: u32) -> u16
+    requires { ⌜ Widths (charactersAt (now file) entry) (now table) ⌝ }
+    ensures { λ r. ⌜ (r ≡ widthIn (characterIn code (charactersAt (now (file .entry)) entry))) × (r ≤ 256) ⌝ }
+{
+    let k = code as usize;
+    if k < table.len() {
+        return table[k];
+    }
+    let Found::Is(width, _) = character(file, entry, code) else {
+        return 0;
+    };
+    records::wide16(width) + 1
+}
+
+// The width of a short text, with a table of widths.
+fn width_by(file: &[u8], entry: FontEntry, table: &[u16], text: &[u8], spacing: u16) -> Measure
+    requires { ⌜ Widths (charactersAt (now file) entry) (now table) ⌝ }
     requires { ⌜ length (now text) ≤ 65000 ⌝ }
     ensures { λ r. ⌜ r ≡ textWidth (charactersAt (now (file .entry)) entry) spacing (codes (now (text .entry))) ⌝ }
 {
@@ -52,13 +69,27 @@ pub fn short_width(file: &[u8], entry: FontEntry, text: &[u8], spacing: u16) -> 
     let mut at: usize = 0;
     while at < text.len() {
         let c = utf8::code_at(text, at);
-        let Found::Is(more, _) = character(file, entry, c.code) else {
+        let more = width_in(file, entry, table, c.code);
+        if more == 0 {
             return Measure::Missing(c.code);
-        };
-        w = wider(w, spacing, more);
+        }
+        w = wider(w, spacing, more - 1);
         at += c.len;
     }
     Measure::Width(w)
+}
+
+// The width of a short text: the font is walked once, or for each character of a text of two bytes at most.
+pub fn short_width(file: &[u8], entry: FontEntry, text: &[u8], spacing: u16) -> Measure
+    requires { ⌜ length (now text) ≤ 65000 ⌝ }
+    ensures { λ r. ⌜ r ≡ textWidth (charactersAt (now (file .entry)) entry) spacing (codes (now (text .entry))) ⌝ }
+{
+    if text.len() <= 2 {
+        return width_by(file, entry, &[0u16; 0], text, spacing);
+    }
+    let mut table = [0u16; 256];
+    font::widths(file, entry, &mut table);
+    width_by(file, entry, &table, text, spacing)
 }
 
 // The width of a text: of its first 65,000 bytes, where it has more.
