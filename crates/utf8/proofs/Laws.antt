@@ -1,10 +1,10 @@
--- The ways on and out of the loops, and the code points one by one. Assumes nothing.
+-- The ways on and out of the loops, and the code points one by one.
 use Prim.Native.Nat.{ℕ, zero, suc, _+_, _-_, _*_, _%_, _≤_, _<_}
 use mathlib.Core.Path.{_≡_, refl, sym, _∙_, ap}
 use mathlib.Core.List.{List, [], _∷_}
 use mathlib.Core.Bool.{Bool, true, false}
 use native.Mathlib.Omega.{arith}
-use borrow.Author.Tests.{ltb-true, ltb-false, le-ltb, not-true, not-false}
+use borrow.Author.Tests.{ltb-true, ltb-false, lt-ltb, le-ltb, not-true, not-false}
 use lib.Dec.{ltb, eqb}
 use lib.ListN.{length, getD, drop, drop-of-length-le}
 use lib.Seq.{getD-drop, drop-drop}
@@ -48,20 +48,56 @@ larger-both m b x = go (ltb m b) (ltb m 128) (ltb b 128) refl refl refl
     go false true true e f g = rw f
     go false true false e f g = absurd (omega (arith, ltb-false m b e, ltb-true m 128 f, ltb-false b 128 g))
 
-module _ (l : List ℕ) (i m : ℕ) (w : Bool) (inv : pick (ltb m 128) (allAscii (drop i l)) false ≡ w) where
-  pub ascii-on : i < length l → (r : ℕ) → r ≡ pick (ltb m (getD l i 0)) (getD l i 0) m → pick (ltb r 128) (allAscii (drop (i + 1) l)) false ≡ w
-  unfolding allAscii
-  ascii-on h r e = rw e (larger-both m (getD l i 0) (allAscii (drop (i + 1) l)) ∙ (rw (drop-step l i h) at inv))
+-- and the smaller is at or past a code where both are
+smaller-both : (k b from : ℕ) (x : Bool) → pick (ltb (pick (ltb b k) b k) from) false x ≡ pick (ltb k from) false (pick (ltb b from) false x)
+smaller-both k b from x = go (ltb b k) (ltb k from) (ltb b from) refl refl refl
+  where
+    go : (t u v : Bool) → ltb b k ≡ t → ltb k from ≡ u → ltb b from ≡ v → pick (ltb (pick t b k) from) false x ≡ pick u false (pick v false x)
+    go true true v e f g = rw (lt-ltb b from (omega (arith, ltb-true b k e, ltb-true k from f)))
+    go true false v e f g = rw g
+    go false true v e f g = rw f
+    go false false true e f g = absurd (omega (arith, ltb-false b k e, ltb-false k from f, ltb-true b from g))
+    go false false false e f g = rw f
 
-  pub ascii-end : length l ≤ i → ltb m 128 ≡ w
-  unfolding allAscii
-  ascii-end h = alone (ltb m 128) ∙ (rw (drop-of-length-le l h) at inv)
-    where
-      alone : (t : Bool) → t ≡ pick t true false
-      alone true = refl
-      alone false = refl
+exchanged : (t u x : Bool) → pick t false (pick u x false) ≡ pick u (pick t false x) false
+exchanged true true x = refl
+exchanged true false x = refl
+exchanged false true x = refl
+exchanged false false x = refl
 
-pub ruleset ascii-ways = (ascii-on, ascii-end)
+module _ (l : List ℕ) (from i k m : ℕ) (w : Bool) (inv : pick (ltb k from) false (pick (ltb m 128) (allAscii from (drop i l)) false) ≡ w) where
+  pub ascii-on : i < length l → (j r : ℕ) → j ≡ pick (ltb (getD l i 0) k) (getD l i 0) k → r ≡ pick (ltb m (getD l i 0)) (getD l i 0) m
+      → pick (ltb j from) false (pick (ltb r 128) (allAscii from (drop (i + 1) l)) false) ≡ w
+  unfolding allAscii
+  ascii-on h j r d e =
+      let b : ℕ = getD l i 0 in
+      let x : Bool = allAscii from (drop (i + 1) l) in
+      rw (d, e)
+      (smaller-both k b from (pick (ltb (pick (ltb m b) b m) 128) x false)
+      ∙ ap (λ (y : Bool). pick (ltb k from) false (pick (ltb b from) false y)) (larger-both m b x)
+      ∙ ap (λ (y : Bool). pick (ltb k from) false y) (exchanged (ltb b from) (ltb m 128) (pick (ltb b 128) x false))
+      ∙ (rw (drop-step l i h) at inv))
+
+  module _ (h : length l ≤ i) where
+    last : pick (ltb k from) false (pick (ltb m 128) true false) ≡ w
+    unfolding allAscii
+    last = rw (drop-of-length-le l h) at inv
+
+    pub ascii-low : k < from → false ≡ w
+    ascii-low p = rw (lt-ltb k from p) at last
+
+    pub ascii-end : from ≤ k → ltb m 128 ≡ w
+    ascii-end p = alone (ltb m 128) ∙ (rw (le-ltb k from p) at last)
+      where
+        alone : (t : Bool) → t ≡ pick t true false
+        alone true = refl
+        alone false = refl
+
+-- where the loop begins
+pub ascii-start : (l : List ℕ) (from : ℕ) → from ≤ 255 → pick (ltb 255 from) false (allAscii from l) ≡ allAscii from l
+ascii-start l from h = rw (le-ltb 255 from h)
+
+pub ruleset ascii-ways = (ascii-on, ascii-low, ascii-end)
 
 -- `code_at`
 pub extra-1 : (b : ℕ) → b < 192 → 0 ≡ extra b
@@ -165,7 +201,7 @@ module _ (l : List ℕ) (at : ℕ) (r : Code) (e : r ≡ codeAt l at) where
     pub code-less : length l - (at + r .len) < length l - at
     code-less = omega (arith, len-is)
 
--- `latin1`
+-- `walk_latin1`
 module _ (l : List ℕ) (at : ℕ) (w : Bool) (inv : allLatin1 (codes (drop at l)) ≡ w) where
   module _ (h : at < length l) (r : Code) (e : r ≡ codeAt l at) where
     all : allLatin1 (r .code ∷ codes (drop (at + r .len) l)) ≡ w

@@ -1,4 +1,4 @@
--- What holds of a well-formed text. Assumes nothing.
+-- What holds of a well-formed text.
 use Prim.Native.Nat.{ℕ, zero, suc, _+_, _-_, _*_, _%_, _≤_, _<_}
 use mathlib.Core.Path.{_≡_, refl, sym, _∙_, ap}
 use mathlib.Core.List.{List, [], _∷_, _++_, List·Memᴰ, List·Memᴰ·not-nil, List·Memᴰ·cases-cons}
@@ -14,7 +14,7 @@ use Rattle.base.specs.Pick.{pick, picks}
 use Rattle.base.specs.Lists.{drop-step, past-end}
 use Rattle.utf8.specs.declared.Due.{Due}
 use Rattle.utf8.specs.declared.Code.{Code}
-use Rattle.utf8.specs.Utf8.{first, extra, low, high, due, fits, after, wellFormedFrom, wellFormed, allAscii, bits, codeOf, codesFrom, codes, codeAt, continues, insideCharacter}
+use Rattle.utf8.specs.Utf8.{first, extra, low, high, due, fits, after, wellFormedFrom, wellFormed, allAscii, bits, codeOf, codesFrom, codes, codeAt, allLatin1, continues, insideCharacter}
 use Rattle.utf8.proofs.Laws.{extra-1, extra-3, extra-4, len-is}
 
 never : {A : Type 0} → false ≡ true → A
@@ -30,17 +30,33 @@ unless true x e = never e
 unless false x e = (refl, e)
 
 -- a text of ASCII is well formed
-ascii-from : (lo hi : ℕ) (l : List ℕ) → allAscii l ≡ true → wellFormedFrom (due 0 lo hi) l ≡ true
-unfolding allAscii wellFormedFrom fits after first extra
-ascii-from lo hi [] e = refl
-ascii-from lo hi (b ∷ l) e =
-    let p = both (ltb b 128) (allAscii l) e in
-    let h : b < 128 = ltb-true b 128 (p .0) in
-    rw (p .0, lt-ltb b 192 (omega arith)) (ascii-from (low b) (high b) l (p .1))
+module _ (from : ℕ) where
+  ascii-first : (b : ℕ) (l : List ℕ) → allAscii from (b ∷ l) ≡ true → (from ≤ b) × (b < 128) × (allAscii from l ≡ true)
+  unfolding allAscii
+  ascii-first b l e =
+      let p = unless (ltb b from) (pick (ltb b 128) (allAscii from l) false) e in
+      let q = both (ltb b 128) (allAscii from l) (p .1) in
+      (ltb-false b from (p .0), ltb-true b 128 (q .0), q .1)
 
-pub ascii-formed : (l : List ℕ) (t : Bool) → t ≡ allAscii l → t ≡ true → true ≡ wellFormed l
-unfolding wellFormed
-ascii-formed l t e p = sym (ascii-from 128 191 l (sym e ∙ p))
+  ascii-from : (lo hi : ℕ) (l : List ℕ) → allAscii from l ≡ true → wellFormedFrom (due 0 lo hi) l ≡ true
+  unfolding wellFormedFrom fits after first extra
+  ascii-from lo hi [] e = refl
+  ascii-from lo hi (b ∷ l) e = let p = ascii-first b l e in rw (lt-ltb b 128 (p .1), lt-ltb b 192 (omega (arith, p .1))) (ascii-from (low b) (high b) l (p .2))
+
+  pub ascii-formed : (l : List ℕ) (t : Bool) → t ≡ allAscii from l → t ≡ true → true ≡ wellFormed l
+  unfolding wellFormed
+  ascii-formed l t e p = sym (ascii-from 128 191 l (sym e ∙ p))
+
+-- and, without 0, Latin-1
+ascii-codes : (l : List ℕ) → allAscii 1 l ≡ true → allLatin1 (codes l) ≡ true
+unfolding codes codesFrom codeOf extra allLatin1
+ascii-codes [] e = refl
+ascii-codes (b ∷ l) e =
+    let p = ascii-first 1 b l e in
+    rw (lt-ltb b 192 (omega (arith, p .1)), le-ltb b 1 (p .0), le-ltb 255 b (omega (arith, p .1))) (ascii-codes l (p .2))
+
+pub ascii-latin1 : (l : List ℕ) (t : Bool) → t ≡ allAscii 1 l → t ≡ true → true ≡ allLatin1 (codes l)
+ascii-latin1 l t e p = sym (ascii-codes l (sym e ∙ p))
 
 -- where none is due, a range says nothing
 start-same : (lo hi : ℕ) (l : List ℕ) → wellFormedFrom (due 0 lo hi) l ≡ wellFormed l

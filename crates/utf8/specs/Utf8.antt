@@ -47,12 +47,12 @@ wellFormedFrom d (b ∷ l) =
 unfoldable pub wellFormed : List ℕ → Bool
 wellFormed l = wellFormedFrom (due 0 128 191) l
 
--- each byte is 00 to 7F: such a text is well formed
-unfoldable pub allAscii : List ℕ → Bool
-allAscii [] = true
-allAscii (b ∷ l) =
-    let on = allAscii l in
-    pick (ltb b 128) on false
+-- each byte is ASCII, from a code on to 7F
+unfoldable pub allAscii : ℕ → List ℕ → Bool
+allAscii from [] = true
+allAscii from (b ∷ l) =
+    let on = allAscii from l in
+    pick (ltb b from) false (pick (ltb b 128) on false)
 
 -- the six low bits of the byte at i, past the end those of 0
 abbrev pub bits : List ℕ → ℕ → ℕ

@@ -115,17 +115,33 @@ fn larger(a: u8, b: u8) -> u8
     a
 }
 
-// Whether every byte is ASCII: the largest is. No way out of the loop, so that it takes many bytes at a time.
-fn ascii(s: &[u8]) -> bool
-    ensures { λ r. ⌜ r ≡ allAscii (now (s .entry)) ⌝ }
+// The smaller of two bytes.
+fn smaller(a: u8, b: u8) -> u8
+    ensures { λ r. ⌜ r ≡ pick (ltb b a) b a ⌝ }
 {
-    let mut m: u8 = 0;
+    if b < a {
+        return b;
+    }
+    a
+}
+
+// Whether every byte is ASCII from a code on: the least and the largest are. No way out of the loop, so that it takes many bytes
+// at a time.
+fn ascii(s: &[u8], from: u8) -> bool
+    ensures { λ r. ⌜ r ≡ allAscii from (now (s .entry)) ⌝ }
+{
+    let mut least: u8 = 255;
+    let mut largest: u8 = 0;
     let mut i = 0;
     while i < s.len() {
-        m = larger(m, s[i]);
+        least = smaller(least, s[i]);
+        largest = larger(largest, s[i]);
         i += 1;
     }
-    m < 128
+    if least < from {
+        return false;
+    }
+    largest < 128
 }
 
 // Whether the bytes are well-formed UTF-8, byte by byte.
@@ -153,7 +169,7 @@ fn walk(s: &[u8]) -> bool
 pub fn well_formed(s: &[u8]) -> bool
     ensures { λ r. ⌜ r ≡ wellFormed (now (s .entry)) ⌝ }
 {
-    if ascii(s) {
+    if ascii(s, 0) {
         return true;
     }
     walk(s)
@@ -215,8 +231,8 @@ pub fn inside_character(s: &[u8], at: usize) -> bool
     continues(base::byte_at(s, at))
 }
 
-// Whether every code point is 1 to 255.
-pub fn latin1(s: &[u8]) -> bool
+// Whether every code point is 1 to 255, one by one.
+fn walk_latin1(s: &[u8]) -> bool
     ensures { λ r. ⌜ r ≡ allLatin1 (codes (now (s .entry))) ⌝ }
 {
     let mut at = 0;
@@ -231,4 +247,14 @@ pub fn latin1(s: &[u8]) -> bool
         at += c.len;
     }
     true
+}
+
+// Whether every code point is 1 to 255.
+pub fn latin1(s: &[u8]) -> bool
+    ensures { λ r. ⌜ r ≡ allLatin1 (codes (now (s .entry))) ⌝ }
+{
+    if ascii(s, 1) {
+        return true;
+    }
+    walk_latin1(s)
 }
