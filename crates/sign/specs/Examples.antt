@@ -33,7 +33,8 @@ fonts : ℕ → List ℕ
 fonts zero = []
 fonts (suc n) = font (suc n) ++ fonts n
 
--- no font and two fonts; then each rule broken: empty, cut in a header and in a body, no kind 1 first, kind 1 twice, a character before a font, a font twice, a character twice, a bitmap one byte short and one long, kind 4, 25 fonts
+-- no font and two fonts; then empty, cut in a header, in a body and in a second header, no kind 1 first, kind 1 twice,
+-- a character before a font, a font twice, a character twice, a bitmap one byte short and one long, kind 4; 24 fonts and 25
 faults : map fault (config ∷ (config ++ font 1 ++ a ++ font 2 ++ a) ∷ [] ∷ take 3 config ∷ take 18 config ∷ (config ++ take 2 (font 1)) ∷ font 1 ∷ (config ++ config) ∷ (config ++ a) ∷ (config ++ font 1 ++ a ++ font 1) ∷ (config ++ font 1 ++ a ++ b ++ a) ∷ (config ++ font 1 ++ 7 ∷ 0 ∷ 3 ∷ 0 ∷ 65 ∷ 0 ∷ 5 ∷ 0 ∷ 0 ∷ 0 ∷ 0 ∷ []) ∷ (config ++ font 1 ++ 9 ∷ 0 ∷ 3 ∷ 0 ∷ 65 ∷ 0 ∷ 5 ∷ 0 ∷ 0 ∷ 0 ∷ 0 ∷ 0 ∷ 0 ∷ []) ∷ (config ++ 0 ∷ 0 ∷ 4 ∷ 0 ∷ []) ∷ (config ++ fonts 24) ∷ (config ++ fonts 25) ∷ []) ≡ Fine ∷ Fine ∷ FailsAt 0 ∷ FailsAt 0 ∷ FailsAt 0 ∷ FailsAt 19 ∷ FailsAt 0 ∷ FailsAt 19 ∷ FailsAt 19 ∷ FailsAt 41 ∷ FailsAt 54 ∷ FailsAt 29 ∷ FailsAt 29 ∷ FailsAt 19 ∷ Fine ∷ FailsAt 259 ∷ []
 unfolding fault firstFault faultFrom isCharacter bitmapLen isFont member isConfig configOk tagsOk bitsOk notZero justOk sizeOk configOf pieces cutFrom restLen firstPiece whole kindOf bodyLen littleAt config font a b fonts
 faults = refl

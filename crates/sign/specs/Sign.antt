@@ -27,11 +27,11 @@ pub record Font : Type 0 where
   pub first : ℕ
   pub characters : List Character
 
--- "number (16 bits), width (a byte), and a bitmap": the bitmap is 4 + 3 bytes past the record's offset
+-- "number (16 bits ..), width (a byte), and a bitmap": the bitmap is 4 + 3 bytes past the record's offset
 abbrev pub characterOf : ℕ → List ℕ → Character
 characterOf at body = record { number = littleAt 2 0 body; width = getD body 2 0; bitmap = at + 7 }
 
--- "6 bytes: number, height, character spacing, line spacing, version id (16 bits)"
+-- "6 bytes: number, height .., character spacing, line spacing, version id (16 bits ..)"
 abbrev pub fontOf : ℕ → List ℕ → List Character → Font
 fontOf at body cs = record { number = getD body 0 0; height = getD body 1 0; charSpacing = getD body 2 0; lineSpacing = getD body 3 0; version = littleAt 2 4 body; first = at + 4 + length body; characters = cs }
 
@@ -74,7 +74,8 @@ isFont ns kind body =
 unfoldable pub bitmapLen : ℕ → ℕ → ℕ
 bitmapLen width height = (width * height + 7) / 8
 
--- a character: "a character of the font before it: number (16 bits, not 0), width (a byte), and a bitmap", "256 characters each with numbers distinct within their font"
+-- a character: "a character of the font before it: number (16 bits, not 0), width (a byte), and a bitmap",
+-- "256 characters each with numbers distinct within their font"
 unfoldable pub isCharacter : Before → ℕ → List ℕ → Bool
 isCharacter NoFont kind body = false
 isCharacter (After height cs) kind body =
@@ -104,7 +105,8 @@ firstFault [] = FailsAt 0
 firstFault (CutShort at ∷ ps) = FailsAt at
 firstFault (Record at kind body ∷ ps) = pick (isConfig kind body) (faultFrom [] NoFont ps) (FailsAt at)
 
--- "65,535 bytes in all"; "start is 0 if the file is too long (looked at first) or empty, otherwise the offset of the first record that fails, one cut short included"
+-- "65,535 bytes in all"; "start is 0 if the file is too long (looked at first) or empty, otherwise the offset of the first record that
+-- fails, one cut short included"
 unfoldable pub fault : List ℕ → Verdict
 fault file = pick (ltb 65535 (length file)) (FailsAt 0) (firstFault (pieces file))
 

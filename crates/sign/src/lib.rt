@@ -166,7 +166,7 @@ fn row_of(file: &[u8], from: usize, height: u8) -> Row
     requires { ⌜ from ≤ length (now file) ⌝ }
     ensures { λ r. ⌜ Ran (now (file .entry)) from height (r .n) (r .at) ⌝ }
 {
-    let mut small = [0u8; 256];
+    let mut small = [0u8; 1024];
     let row = read_row(file, from, height, &mut small);
     if !row.wide {
         return row;
