@@ -1,6 +1,6 @@
 // Offsets across of a span within its group, as a fold over the rows of a pass.
 ghost use mathlib.Core.Path.{_≡_};
-ghost use Prim.Native.Nat.{_+_, _/_, _≤_, _<_};
+ghost use Prim.Native.Nat.{_+_, _*_, _/_, _≤_, _<_};
 ghost use lib.Dec.{eqb};
 ghost use lib.ListN.{length};
 ghost use Rattle.base.specs.Pick.{pick};
@@ -125,7 +125,7 @@ fn advance(o: Sums, r: Row, e: Row) -> Sums
 
 // The sums of a pass of n rows, for the span with the row r.
 pub fn offset_horiz(rows: &[u16], n: usize, r: Row) -> Sums
-    requires { ⌜ (n ≤ 2048) × (length (now rows) ≡ 38912) ⌝ }
+    requires { ⌜ (n ≤ 2048) × (19 * n ≤ length (now rows)) ⌝ }
     ensures { λ s. ⌜ (s ≡ sums r noneYet (rowsOf (now (rows .entry)) n)) × (s .before + s .after ≤ 17592186044416) ⌝ }
 {
     let mut o = Sums {

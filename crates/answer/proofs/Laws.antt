@@ -1,13 +1,12 @@
--- The answers before the one asked, and the checks. Assumes nothing.
+-- The answers before the one asked, and the checks.
 use Prim.Native.Nat.{ℕ, zero, suc, _+_, _-_, _*_, _≤_, _<_}
 use mathlib.Core.Path.{_≡_, refl, sym, _∙_, ap, subst}
 use mathlib.Core.Bool.{Bool, true, false, not}
-use mathlib.Core.List.{List, [], _∷_, _++_}
+use mathlib.Core.List.{List, [], _∷_}
 use native.Mathlib.Omega.{arith}
 use native.Mathlib.Numerals.{add-one}
 use native.Mathlib.Nat.{sub-zero}
-use lib.ListN.{length, take, set}
-use lib.Seq.{take-suc-set}
+use lib.ListN.{length}
 use borrow.Author.Tests.{lt-ltb, le-ltb}
 use Rattle.utf8.specs.Utf8.{wellFormed}
 use Rattle.reading.specs.declared.Refusal.{Refusal}
@@ -23,85 +22,77 @@ use Rattle.layout.specs.declared.Answer.{Answer}
 use Rattle.layout.specs.declared.Answer.the-variants.{On, Off, End, Refused}
 use Rattle.layout.specs.Types.{items, Board, refusal}
 use Rattle.layout.specs.Fonts.{meterOf, boardOf}
-use Rattle.layout.specs.Listing.{Page, on, off, refused as refusedPage, pages, Result, past, numbered, resultOn, result}
+use Rattle.layout.specs.Listing.{Page, on, off, refused as refusedPage, pages, Result, past, numbered, checked, resultOn, result}
 use Rattle.layout.proofs.Room.{result-room}
-use Rattle.rows.specs.Rows.{cells, spanAt, spansOf}
-use Rattle.rows.proofs.Laws.{cells-last}
+use Rattle.rows.specs.Rows.{spansOf}
+use Rattle.rows.proofs.Laws.{spans-length}
 use Rattle.meter.specs.Gauges.{fontsIn, meterIn}
 use Rattle.pages.specs.declared.Pages.{Pages}
 use Rattle.pages.specs.declared.NextPage.{NextPage}
 use Rattle.pages.specs.declared.NextPage.the-variants.{On as NextOn, Off as NextOff, End as NextNone, Refused as NextRefused}
 use Rattle.pages.specs.Pages.{boardIn, firstOf, todo, nextTold, Sound, weight, Keeps}
 use Rattle.pages.proofs.Answers.{pages-todo, first-sound}
-use Rattle.answer.specs.Answer.{writtenBy, told, answerBy, Countable, checkedOf, countOf}
+use Rattle.answer.specs.Answer.{writtenBy, told, answerBy, Countable, countOf}
 
 -- ---- the loop
 
-pub record Stands (s : Board) (msg : List ℕ) (number : ℕ) (rows out : List ℕ) (p : Pages) (i : ℕ) : Type 0 where
+pub record Stands (s : Board) (msg : List ℕ) (number R O : ℕ) (rows out : List ℕ) (p : Pages) (i : ℕ) : Type 0 where
   pub sound : Sound (s .config) (length msg) p
   pub few : i + weight (p .«page_state») ≤ 2 * p .at + 2
   pub before : i ≤ number
-  pub rowed : length rows ≡ 38912
-  pub room : length out ≡ 30720
+  pub rowed : length rows ≡ R
+  pub room : length out ≡ O
   pub same : numbered i (todo s msg p) (number - i) ≡ numbered 0 (pages s (items msg)) number
 
-pub numbered-start : (s : Board) (msg : List ℕ) (number : ℕ) (rows out : List ℕ) (p : Pages) → p ≡ firstOf (s .config) → length rows ≡ 38912 → length out ≡ 30720 → Stands s msg number rows out p 0
-numbered-start s msg number rows out p e l m =
-    subst (λ (q : Pages). Stands s msg number rows out q 0) (sym e)
+pub numbered-start : (s : Board) (msg : List ℕ) (number : ℕ) (rows out : List ℕ) (p : Pages) → p ≡ firstOf (s .config) → Stands s msg number (length rows) (length out) rows out p 0
+numbered-start s msg number rows out p e =
+    subst (λ (q : Pages). Stands s msg number (length rows) (length out) rows out q 0) (sym e)
     (record {
       sound = first-sound (s .config) (length msg);
       few = omega arith;
       before = omega arith;
-      rowed = l;
-      room = m;
+      rowed = refl;
+      room = refl;
       same = rw sub-zero (ap (λ (x : List Page). numbered 0 x number) (sym (pages-todo s msg)));
     })
-
-cells-length : {A : Type 0} (f : ℕ → A) (i k : ℕ) → length (cells f i k) ≡ k
-cells-length f i zero = refl
-cells-length f i (suc k) = ap suc (cells-length f (suc i) k)
-
-spans-length : (l : List ℕ) (n : ℕ) → length (spansOf l n) ≡ n
-unfolding spansOf
-spans-length l n = cells-length (spanAt l) 0 n
 
 -- one answer less
 less : (i m k : ℕ) (q : Page) (l : List Page) → m ≡ suc k → numbered i (q ∷ l) m ≡ past q (numbered (suc i) l k)
 less i m k q l e = rw e
 
-module _ (s : Board) (msg : List ℕ) (number : ℕ) (rows out : List ℕ) (p : Pages) (i : ℕ) (z : Stands s msg number rows out p i) (small : length msg ≤ 2048) where
+module _ (s : Board) (msg : List ℕ) (number R O : ℕ) (rows out : List ℕ) (p : Pages) (i : ℕ) (z : Stands s msg number R O rows out p i) (small : length msg ≤ 2048) where
   pub count-small : i < 65536
   count-small = omega (arith, z .few, z .sound .within)
 
   -- t is the next answer
-  module _ (rows′ out′ : List ℕ) (t : NextPage) (e : todo s msg p ≡ nextTold s msg out′ t) (k : Keeps (s .config) (length msg) (p .at) (weight (p .«page_state»)) t) (l : length rows′ ≡ 38912) (m : length out′ ≡ 30720) where
+  module _ (rows′ out′ : List ℕ) (t : NextPage) (e : todo s msg p ≡ nextTold s msg out′ t) (k : Keeps (s .config) (length msg) (p .at) (weight (p .«page_state»)) t) (l : length rows′ ≡ length rows) (m : length out′ ≡ length out) where
     here : (u : NextPage) → t ≡ u → numbered i (nextTold s msg out′ u) (number - i) ≡ numbered 0 (pages s (items msg)) number
     here u q = ap (λ (x : List Page). numbered i x (number - i)) (sym (e ∙ ap (nextTold s msg out′) q)) ∙ z .same
 
     keeps : (u : NextPage) → t ≡ u → Keeps (s .config) (length msg) (p .at) (weight (p .«page_state»)) u
     keeps u q = subst (Keeps (s .config) (length msg) (p .at) (weight (p .«page_state»))) q k
 
-    pub numbered-on : (q : Pages) (d n : ℕ) → t ≡ NextOn q d n → i < number → Stands s msg number rows′ out′ q (i + 1)
+    pub numbered-on : (q : Pages) (d n : ℕ) → t ≡ NextOn q d n → i < number → Stands s msg number R O rows′ out′ q (i + 1)
     numbered-on q d n c h =
         let g : Keeps (s .config) (length msg) (p .at) (weight (p .«page_state»)) (NextOn q d n) = keeps (NextOn q d n) c in
         record {
           sound = g .0;
           few = omega (arith, g .1, z .few);
           before = omega arith;
-          rowed = l;
-          room = m;
+          rowed = l ∙ z .rowed;
+          room = m ∙ z .room;
           same = rw (add-one i) (sym (less i (number - i) (number - suc i) (on d (spansOf out′ n)) (todo s msg q) (omega arith)) ∙ here (NextOn q d n) c);
         }
 
-    pub numbered-off : (q : Pages) (d : ℕ) → t ≡ NextOff q d → i < number → Stands s msg number rows′ out′ q (i + 1)
+    pub numbered-off : (q : Pages) (d : ℕ) → t ≡ NextOff q d → i < number → Stands s msg number R O rows′ out′ q (i + 1)
     numbered-off q d c h =
         let g : Keeps (s .config) (length msg) (p .at) (weight (p .«page_state»)) (NextOff q d) = keeps (NextOff q d) c in
         record {
           sound = g .0;
           few = omega (arith, g .1, z .few);
           before = omega arith;
-          rowed = l;
-          room = m;
+          rowed = l ∙ z .rowed;
+          room = m ∙ z .room;
           same = rw (add-one i) (sym (less i (number - i) (number - suc i) (off d) (todo s msg q) (omega arith)) ∙ here (NextOff q d) c);
         }
 
@@ -130,11 +121,24 @@ module _ (s : Board) (msg : List ℕ) (number : ℕ) (rows out : List ℕ) (p : 
     asked j NextNone h = refl
     asked j (NextRefused x) h = rw h
 
+    few : (u : NextPage) → t ≡ u → countOf (answerBy u i) ≤ length msg
+    few (NextOn q d n) c = (keeps (NextOn q d n) c) .2
+    few (NextOff q d) c = omega arith
+    few NextNone c = omega arith
+    few (NextRefused x) c = omega arith
+
+    pub numbered-few : (r : Answer) → r ≡ answerBy t i → countOf r ≤ length msg
+    numbered-few r c = subst (λ (x : Answer). countOf x ≤ length msg) (sym c) (few t refl)
+
     pub numbered-asked : (r : Answer) → number ≤ i → r ≡ answerBy t i → told r out′ ≡ numbered 0 (pages s (items msg)) number
     numbered-asked r h c = ap (λ (x : Answer). told x out′) c ∙ asked (number - i) t (omega arith) ∙ here t refl
 
 pub countable-on : (t : NextPage) (p : Pages) (d n : ℕ) → Countable t → t ≡ NextOn p d n → n < 65536
 countable-on t p d n h q = subst Countable q h
+
+-- a refusal has no records
+pub none-counted : (r : Answer) (x : Refusal) (n : ℕ) → r ≡ Refused x → 15 * countOf r ≤ n
+none-counted r x n e = subst (λ (a : Answer). 15 * countOf a ≤ n) (sym e) (omega arith)
 
 -- ---- the checks
 
@@ -147,20 +151,16 @@ not-false true e = refl
 not-false false e = absurd (let z : _≡_ {A = ℕ} 0 1 = cc in omega arith)
 
 module _ (s : Board) (msg : List ℕ) (n room : ℕ) where
-  pub too-long : (l : List ℕ) (r : Answer) → 2048 < length msg → r ≡ Refused (refusal 2 0 0 0) → told r l ≡ checkedOf s msg n room
-  unfolding checkedOf
+  pub too-long : (l : List ℕ) (r : Answer) → 2048 < length msg → r ≡ Refused (refusal 2 0 0 0) → told r l ≡ checked s msg n room
   too-long l r h e = rw (e, lt-ltb 2048 (length msg) h)
 
-  pub ill-formed : (l : List ℕ) (r : Answer) (w : Bool) → length msg ≤ 2048 → w ≡ wellFormed msg → not w ≡ true → r ≡ Refused (refusal 3 0 0 0) → told r l ≡ checkedOf s msg n room
-  unfolding checkedOf
+  pub ill-formed : (l : List ℕ) (r : Answer) (w : Bool) → length msg ≤ 2048 → w ≡ wellFormed msg → not w ≡ true → r ≡ Refused (refusal 3 0 0 0) → told r l ≡ checked s msg n room
   ill-formed l r w h e f d = rw (d, le-ltb 2048 (length msg) h, ← e, not-true w f)
 
-  pub no-room : (l : List ℕ) (r : Answer) (w : Bool) → length msg ≤ 2048 → w ≡ wellFormed msg → not w ≡ false → room < 1400 → r ≡ Refused (refusal 4 0 0 0) → told r l ≡ checkedOf s msg n room
-  unfolding checkedOf
+  pub no-room : (l : List ℕ) (r : Answer) (w : Bool) → length msg ≤ 2048 → w ≡ wellFormed msg → not w ≡ false → room < 1400 → r ≡ Refused (refusal 4 0 0 0) → told r l ≡ checked s msg n room
   no-room l r w h e f g d = rw (d, le-ltb 2048 (length msg) h, ← e, not-false w f, lt-ltb room 1400 g)
 
-  pub all-well : (x : Result) (w : Bool) → length msg ≤ 2048 → w ≡ wellFormed msg → not w ≡ false → 1400 ≤ room → x ≡ numbered 0 (pages s (items msg)) n → x ≡ checkedOf s msg n room
-  unfolding checkedOf
+  pub all-well : (x : Result) (w : Bool) → length msg ≤ 2048 → w ≡ wellFormed msg → not w ≡ false → 1400 ≤ room → x ≡ numbered 0 (pages s (items msg)) n → x ≡ checked s msg n room
   all-well x w h e f g d = rw (le-ltb 2048 (length msg) h, ← e, not-false w f, le-ltb room 1400 g) d
 
 -- ---- the sign file
@@ -170,17 +170,17 @@ module _ (file msg : List ℕ) (n room : ℕ) (t : SignFile) (e : t ≡ tableOf 
   unfolding boardOf meterIn
   board-is c fs q = ap (λ (x : Sign). record { config = c; meter = meterOf msg (fontsIn x) }) q
 
-  pub sign-good : Bytes file → t .outcome ≡ AcceptedOutcome → (x : Result) → x ≡ checkedOf (boardIn file msg (t .config)) msg n room → x ≡ result file msg n room
-  unfolding result checkedOf
+  pub sign-good : Bytes file → t .outcome ≡ AcceptedOutcome → (x : Result) → x ≡ checked (boardIn file msg (t .config)) msg n room → x ≡ result file msg n room
+  unfolding result
   sign-good b h x d =
       let a : Accepts file t = accepts file t e b h in
-      d ∙ ap (λ (y : Board). checkedOf y msg n room) (board-is (t .config) (a .fs) (a .is)) ∙ ap (λ (y : Sign). resultOn y msg n room) (sym (a .is))
+      d ∙ ap (λ (y : Board). checked y msg n room) (board-is (t .config) (a .fs) (a .is)) ∙ ap (λ (y : Sign). resultOn y msg n room) (sym (a .is))
 
   pub sign-bad : (at : ℕ) → t .outcome ≡ RefusedOutcome at → (l : List ℕ) (r : Answer) → r ≡ Refused (refusal 1 at 0 0) → told r l ≡ result file msg n room
   unfolding result
   sign-bad at h l r d = ap (λ (y : Answer). told y l) d ∙ ap (λ (y : Sign). resultOn y msg n room) (sym (refuses file t e at h))
 
--- ---- the records by value
+-- ---- the count of the records
 
 count-told : (a : Answer) (l : List ℕ) → length (writtenBy a l) ≡ countOf a
 count-told (On d n) l = spans-length l n
@@ -200,26 +200,16 @@ module _ (file msg : List ℕ) (number room : ℕ) (a : Answer) (l : List ℕ) (
   counted : length ((result file msg number room) .written) ≡ n
   counted = ap (λ (x : Result). length (x .written)) (sym e) ∙ count-told a l ∙ sym c
 
-  pub count-fits : (n ≤ 1400) × (n ≤ room)
+  count-fits : (n ≤ 1400) × (n ≤ room)
   count-fits =
       let r : (length ((result file msg number room) .written) ≤ 1400) × (length ((result file msg number room) .written) ≤ room) = result-room file msg number room in
       (omega (arith, r .0, counted), omega (arith, r .1, counted))
 
-  pub listed-is : (k : ℕ) (xs : List Span) → (k ≡ n) × (take n xs ≡ spansOf l n) → (a ≡ (result file msg number room) .answer) × (take k xs ≡ (result file msg number room) .written) × (k ≤ 1400) × (k ≤ room)
-  listed-is k xs f = (
+  pub counted-is : 15 * countOf a ≤ length l → (a ≡ (result file msg number room) .answer) × (spansOf l n ≡ (result file msg number room) .written) × (n ≤ 1400) × (n ≤ room) × (15 * n ≤ length l)
+  counted-is h = (
     ap (λ (x : Result). x .answer) e,
-    ap (λ (j : ℕ). take j xs) (f .0) ∙ f .1 ∙ ap (spansOf l) c ∙ none-written a l ∙ ap (λ (x : Result). x .written) e,
-    omega (arith, f .0, count-fits .0),
-    omega (arith, f .0, count-fits .1),
+    ap (spansOf l) c ∙ none-written a l ∙ ap (λ (x : Result). x .written) e,
+    count-fits .0,
+    count-fits .1,
+    subst (λ (k : ℕ). 15 * k ≤ length l) (sym c) h,
   )
-
--- one record more of the array
-pub fill-on : (out : List ℕ) (xs : List Span) (i : ℕ) (s : Span) → i < length xs → s ≡ spanAt out i → take i xs ≡ spansOf out i → take (i + 1) (set xs i s) ≡ spansOf out (i + 1)
-unfolding spansOf
-fill-on out xs i s h e q =
-    rw (add-one i)
-    (take-suc-set xs i s h ∙ ap (λ (l : List Span). l ++ (s ∷ [])) q ∙ ap (λ (x : Span). cells (spanAt out) 0 i ++ (x ∷ [])) (e ∙ ap (spanAt out) (let z : i ≡ 0 + i = omega arith in z)) ∙ sym (cells-last (spanAt out) 0 i))
-
-pub fill-start : (out : List ℕ) (xs : List Span) → take 0 xs ≡ spansOf out 0
-unfolding spansOf
-fill-start out xs = refl

@@ -1,4 +1,4 @@
--- The start of a refused sign file has 16 bits. Assumes nothing.
+-- The start of a refused sign file has 16 bits.
 use Prim.Native.Nat.{ℕ, zero, suc, _+_, _≤_, _<_}
 use mathlib.Core.Path.{_≡_, refl}
 use mathlib.Core.Bool.{Bool, true, false}

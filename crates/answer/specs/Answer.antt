@@ -1,15 +1,10 @@
 -- An answer as the code gives it: with its records in a slice of numbers.
 use Prim.Native.Nat.{ℕ, _<_}
 use mathlib.Core.List.{List, []}
-use lib.Dec.{ltb}
-use lib.ListN.{length}
-use Rattle.base.specs.Pick.{pick}
-use Rattle.utf8.specs.Utf8.{wellFormed}
 use Rattle.layout.specs.declared.Span.{Span}
 use Rattle.layout.specs.declared.Answer.{Answer}
 use Rattle.layout.specs.declared.Answer.the-variants.{On, Off, End, Refused}
-use Rattle.layout.specs.Types.{items, Board}
-use Rattle.layout.specs.Listing.{pages, Result, numbered, refusing}
+use Rattle.layout.specs.Listing.{Result}
 use Rattle.rows.specs.Rows.{spansOf}
 use Rattle.pages.specs.declared.NextPage.{NextPage}
 use Rattle.pages.specs.declared.NextPage.the-variants.{On as NextOn, Off as NextOff, End as NextNone, Refused as NextRefused}
@@ -37,15 +32,6 @@ Countable (NextOn p d n) = n < 65536
 Countable (NextOff p d) = Unit {0}
 Countable NextNone = Unit {0}
 Countable (NextRefused r) = Unit {0}
-
--- the checks of a message, as layout's `resultOn` has them, and then the answer
-unfoldable pub checkedOf : Board → List ℕ → ℕ → ℕ → Result
-checkedOf s msg n room =
-    pick (ltb 2048 (length msg)) (refusing 2 0)
-    (pick (wellFormed msg)
-    (pick (ltb room 1400) (refusing 4 0)
-    (numbered 0 (pages s (items msg)) n))
-    (refusing 3 0))
 
 -- how many records an answer has
 abbrev pub countOf : Answer → ℕ

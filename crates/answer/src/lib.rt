@@ -1,21 +1,19 @@
 // The computation of an answer: sign file, message, answer number and room give the answer, and its records as rows of numbers.
 ghost use mathlib.Core.Path.{_≡_};
-ghost use Prim.Native.Nat.{_≤_, _<_};
-ghost use lib.ListN.{length, take};
+ghost use Prim.Native.Nat.{_*_, _≤_, _<_};
+ghost use lib.ListN.{length};
 ghost use Rattle.layout.specs.Types.{items, refusal as refusalOf};
-ghost use Rattle.layout.specs.Listing.{pages as pagesOf, numbered as numberedOf, result};
+ghost use Rattle.layout.specs.Listing.{pages as pagesOf, numbered as numberedOf, checked as checkedOf, result};
 ghost use Rattle.meter.specs.Gauges.{Opened};
 ghost use Rattle.pages.specs.Pages.{boardIn};
-ghost use Rattle.answer.specs.Answer.{told, answerBy, Countable, checkedOf, countOf};
+ghost use Rattle.answer.specs.Answer.{told, answerBy, Countable, countOf};
 ghost use Rattle.rows.specs.Rows.{spansOf};
 use layout::Answer;
-use layout::Span;
 use pages::NextPage;
 use pages::Pages;
 use reading::Refusal;
 use sign::Outcome;
 use sign::SignFile;
-use write::Spans;
 
 // A refusal of the whole call.
 fn refuse(number: u8, start: u16) -> Answer
@@ -51,9 +49,10 @@ fn numbered(
     rows: &mut [u16],
     out: &mut [u16],
 ) -> Answer
-    requires { ⌜ Opened (now file) table × (length (now msg) ≤ 2048) × (length (now rows) ≡ 38912) × (length (now out) ≡ 30720) ⌝ }
+    requires { ⌜ Opened (now file) table × (length (now msg) ≤ 2048) × (19 * length (now msg) ≤ length (now rows)) × (15 * length (now msg) ≤ length (now out)) ⌝ }
     ensures { λ r. ⌜ (told r (now (out .exit)) ≡ numberedOf 0 (pagesOf (boardIn (now (file .entry)) (now (msg .entry)) (table .config)) (items (now (msg .entry)))) number)
-        × (length (now (rows .exit)) ≡ 38912) × (length (now (out .exit)) ≡ 30720) ⌝ }
+        × (countOf r ≤ length (now (msg .entry)))
+        × (length (now (rows .exit)) ≡ length (now (rows .entry))) × (length (now (out .exit)) ≡ length (now (out .entry))) ⌝ }
 {
     let mut p = pages::first(table.config);
     let mut i: usize = 0;
@@ -78,6 +77,21 @@ fn numbered(
     answer_of(pages::next(file, table, msg, p, rows, out), i)
 }
 
+// The same, with rows for as many spans as the message can have: one for each of its bytes.
+fn paged(file: &[u8], table: SignFile, msg: &[u8], number: usize, out: &mut [u16]) -> Answer
+    requires { ⌜ Opened (now file) table × (length (now msg) ≤ 2048) × (15 * length (now msg) ≤ length (now out)) ⌝ }
+    ensures { λ r. ⌜ (told r (now (out .exit)) ≡ numberedOf 0 (pagesOf (boardIn (now (file .entry)) (now (msg .entry)) (table .config)) (items (now (msg .entry)))) number)
+        × (countOf r ≤ length (now (msg .entry)))
+        × (length (now (out .exit)) ≡ length (now (out .entry))) ⌝ }
+{
+    if msg.len() <= 256 {
+        let mut few = [0u16; 4864];
+        return numbered(file, table, msg, number, &mut few, out);
+    }
+    let mut rows = [0u16; 38912];
+    numbered(file, table, msg, number, &mut rows, out)
+}
+
 // The checks of a message, with an accepted sign file.
 fn checked(
     file: &[u8],
@@ -87,8 +101,10 @@ fn checked(
     room: usize,
     out: &mut [u16],
 ) -> Answer
-    requires { ⌜ Opened (now file) table × (length (now out) ≡ 30720) ⌝ }
-    ensures { λ r. ⌜ (told r (now (out .exit)) ≡ checkedOf (boardIn (now (file .entry)) (now (msg .entry)) (table .config)) (now (msg .entry)) number room) × (length (now (out .exit)) ≡ 30720) ⌝ }
+    requires { ⌜ Opened (now file) table × ((h : length (now msg) ≤ 2048) → 15 * length (now msg) ≤ length (now out)) ⌝ }
+    ensures { λ r. ⌜ (told r (now (out .exit)) ≡ checkedOf (boardIn (now (file .entry)) (now (msg .entry)) (table .config)) (now (msg .entry)) number room)
+        × (15 * countOf r ≤ length (now (out .entry)))
+        × (length (now (out .exit)) ≡ length (now (out .entry))) ⌝ }
 {
     if 2048 < msg.len() {
         return refuse(2, 0);
@@ -99,14 +115,15 @@ fn checked(
     if room < 1400 {
         return refuse(4, 0);
     }
-    let mut rows = [0u16; 38912];
-    numbered(file, table, msg, number, &mut rows, out)
+    paged(file, table, msg, number, out)
 }
 
-// The answer, and its records first in the slice.
+// The answer, and its records first in the slice, which has room for as many as the message has bytes.
 pub fn compute(file: &[u8], msg: &[u8], number: usize, room: usize, out: &mut [u16]) -> Answer
-    requires { ⌜ length (now out) ≡ 30720 ⌝ }
-    ensures { λ r. ⌜ (told r (now (out .exit)) ≡ result (now (file .entry)) (now (msg .entry)) number room) × (length (now (out .exit)) ≡ 30720) ⌝ }
+    requires { ⌜ ((h : length (now msg) ≤ 2048) → 15 * length (now msg) ≤ length (now out)) ⌝ }
+    ensures { λ r. ⌜ (told r (now (out .exit)) ≡ result (now (file .entry)) (now (msg .entry)) number room)
+        × (15 * countOf r ≤ length (now (out .entry)))
+        × (length (now (out .exit)) ≡ length (now (out .entry))) ⌝ }
 {
     let table = sign::read_sign(file);
     let outcome = table.outcome;
@@ -114,12 +131,6 @@ pub fn compute(file: &[u8], msg: &[u8], number: usize, room: usize, out: &mut [u
         Outcome::Accepted => checked(file, table, msg, number, room, out),
         Outcome::RefusedAt(at) => refuse(1, at as u16),
     }
-}
-
-// An answer with its records by value.
-pub struct AnswerRecords {
-    pub answer: Answer,
-    pub spans: Spans,
 }
 
 // How many records an answer has.
@@ -134,27 +145,18 @@ fn count_of(a: Answer) -> usize
     }
 }
 
-// The first n records of the slice by value.
-fn fill(out: &[u16], n: usize) -> Spans
-    requires { ⌜ (n ≤ 1400) × (length (now out) ≡ 30720) ⌝ }
-    ensures { λ r. ⌜ (r .count ≡ n) × (take n (r .items) ≡ spansOf (now (out .entry)) n) ⌝ }
-{
-    let blank = rows::span_at(out, 0);
-    let mut items = [blank; 1400];
-    let mut i: usize = 0;
-    while i < n {
-        items[i] = rows::span_at(out, i);
-        i += 1;
-    }
-    Spans { items, count: n }
+// An answer, and how many records it has.
+pub struct AnswerCount {
+    pub answer: Answer,
+    pub count: usize,
 }
 
-// The answer, and its records by value.
-pub fn listed(file: &[u8], msg: &[u8], number: usize, room: usize) -> AnswerRecords
-    ensures { λ r. ⌜ (r .answer ≡ (result (now (file .entry)) (now (msg .entry)) number room) .answer) × (take (r .spans .count) (r .spans .items) ≡ (result (now (file .entry)) (now (msg .entry)) number room) .written) × (r .spans .count ≤ 1400) × (r .spans .count ≤ room) ⌝ }
+// The answer with the count of its records, which stand first in the slice.
+pub fn counted(file: &[u8], msg: &[u8], number: usize, room: usize, out: &mut [u16]) -> AnswerCount
+    requires { ⌜ ((h : length (now msg) ≤ 2048) → 15 * length (now msg) ≤ length (now out)) ⌝ }
+    ensures { λ r. ⌜ (r .answer ≡ (result (now (file .entry)) (now (msg .entry)) number room) .answer) × (spansOf (now (out .exit)) (r .count) ≡ (result (now (file .entry)) (now (msg .entry)) number room) .written) × (r .count ≤ 1400) × (r .count ≤ room) × (15 * r .count ≤ length (now (out .exit))) ⌝ }
 {
-    let mut out = [0u16; 30720];
-    let answer = compute(file, msg, number, room, &mut out);
-    let spans = fill(&out, count_of(answer));
-    AnswerRecords { answer, spans }
+    let answer = compute(file, msg, number, room, out);
+    let count = count_of(answer);
+    AnswerCount { answer, count }
 }

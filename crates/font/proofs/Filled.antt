@@ -1,4 +1,4 @@
--- How a table of widths is filled. Assumes nothing.
+-- How a table of widths is filled.
 use Prim.Native.Nat.{ℕ, zero, suc, _+_, _≤_, _<_}
 use mathlib.Core.Path.{_≡_, refl, sym, _∙_, ap}
 use mathlib.Core.List.{List, [], _∷_}

@@ -1,4 +1,4 @@
--- The ways on and out of the search for a character, and what holds of one that is found. Assumes nothing.
+-- The ways on and out of the search for a character, and what holds of one that is found.
 use Prim.Native.Nat.{ℕ, suc, _+_, _-_, _≤_, _<_}
 use mathlib.Core.Path.{_≡_, refl, sym, _∙_, ap}
 use mathlib.Core.List.{List, [], _∷_}

@@ -1,4 +1,4 @@
--- The ways on and out of the search for a font, and what holds of one that is found. Assumes nothing.
+-- The ways on and out of the search for a font, and what holds of one that is found.
 use Prim.Native.Nat.{ℕ, _+_, _-_, _≤_, _<_}
 use mathlib.Core.Path.{_≡_, refl, sym, _∙_, ap, subst}
 use mathlib.Core.Option.{Option, none, some}

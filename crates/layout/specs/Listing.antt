@@ -87,14 +87,18 @@ abbrev pub refusing : ℕ → ℕ → Result
 refusing n start = said (Refused (refusal n start 0 0))
 
 -- 2, "the message is longer than 2,048 bytes"; 3, "not well-formed UTF-8"; 4, "the slice has fewer than 1,400 records"
-abbrev pub resultOn : Sign → List ℕ → ℕ → ℕ → Result
-resultOn (RefusedAt start) msg n room = refusing 1 start
-resultOn (Accepted c fs) msg n room =
+abbrev pub checked : Board → List ℕ → ℕ → ℕ → Result
+checked s msg n room =
     pick (ltb 2048 (length msg)) (refusing 2 0)
     (pick (wellFormed msg)
     (pick (ltb room 1400) (refusing 4 0)
-    (numbered 0 (pages (boardOf msg c fs) (items msg)) n))
+    (numbered 0 (pages s (items msg)) n))
     (refusing 3 0))
+
+-- 1, "the sign file breaks a rule above", comes first
+abbrev pub resultOn : Sign → List ℕ → ℕ → ℕ → Result
+resultOn (RefusedAt start) msg n room = refusing 1 start
+resultOn (Accepted c fs) msg n room = checked (boardOf msg c fs) msg n room
 
 -- the call: sign file, message, answer number from 0, and the records of the lent slice
 unfoldable pub result : List ℕ → List ℕ → ℕ → ℕ → Result

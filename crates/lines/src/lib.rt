@@ -2,7 +2,7 @@
 ghost use mathlib.Core.Path.{_≡_};
 ghost use mathlib.Core.Bool.{false};
 ghost use mathlib.Core.List.{[]};
-ghost use Prim.Native.Nat.{_+_, _≤_, _<_, max};
+ghost use Prim.Native.Nat.{_+_, _*_, _≤_, _<_, max};
 ghost use mathlib.Core.Option.{none};
 ghost use lib.Dec.{leb, ltb, eqb};
 ghost use lib.ListN.{length};
@@ -12,7 +12,7 @@ ghost use Rattle.rows.specs.Rows.{rowsOf};
 ghost use Rattle.rows.specs.Measured.{faultOf, fontNumber};
 ghost use Rattle.lines.specs.Lines.{linesIn, linesFrom, fontFaultFrom, gapOf};
 
-// Heights and font spacings of the lines, their own spacings (led is 1 where a line has one), and number and detail of the first font fault
+// The lines: heights, font spacings, and in leads their own spacings, where led is 1. fault, detail: the first font fault
 // (10, 11) met while they were collected, or 0.
 pub struct LineList {
     pub heights: [u16; 256],
@@ -99,7 +99,7 @@ fn font_number(n: u16) -> u16
 
 // The lines of the rows with a page justification.
 pub fn line_list(rows: &[u16], n: usize, just: u16) -> LineList
-    requires { ⌜ (n ≤ 2048) × (length (now rows) ≡ 38912) ⌝ }
+    requires { ⌜ (n ≤ 2048) × (19 * n ≤ length (now rows)) ⌝ }
     ensures { λ l. ⌜ (linesIn l ≡ linesFrom just [] (rowsOf (now (rows .entry)) n)) × (faultOf (l .fault) (l .detail) ≡ fontFaultFrom just (rowsOf (now (rows .entry)) n)) × (l .count ≤ 256) ⌝ }
 {
     let mut l = LineList {
@@ -164,7 +164,7 @@ fn upto(i: usize, line: u16) -> bool
     i <= line as usize
 }
 
-// A sum with one height more, or as it was.
+// A sum with a spacing and a height more, or as it was.
 fn added(b: bool, sum: u64, g: u64, h: u16) -> u64
     requires { ⌜ (sum ≤ 33554432) × (g ≤ 65535) ⌝ }
     ensures { λ r. ⌜ (r ≡ sum + pick b (g + h) 0) × (r ≤ sum + 131072) ⌝ }

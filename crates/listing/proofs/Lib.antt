@@ -1,1 +1,4 @@
+pub mod Common
 pub mod Facts
+pub mod Loan
+pub mod Walk

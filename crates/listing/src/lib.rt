@@ -1,15 +1,40 @@
 // The listing call: it writes the records of an answer to the lent slice.
 ghost use mathlib.Core.Path.{_≡_};
+ghost use Prim.Native.Nat.{_≤_};
+ghost use lib.ListN.{length};
 ghost use Rattle.layout.specs.Listing.{listing, after};
 use layout::Answer;
 use layout::Span;
+
+// The listing of a short message: 15 numbers for each of its bytes are enough.
+fn list_short(file: &[u8], message: &[u8], answer: usize, recs: &mut [Span]) -> Answer
+    requires { ⌜ length (now message) ≤ 256 ⌝ }
+    ensures { λ r. ⌜ (r ≡ listing (now (file .entry)) (now (message .entry)) answer (now (recs .entry))) × (now (recs .exit) ≡ after (now (file .entry)) (now (message .entry)) answer (now (recs .entry))) ⌝ }
+{
+    let mut out = [0u16; 3840];
+    let n = recs.len();
+    let a = answer::counted(file, message, answer, n, &mut out);
+    write::write_rows(recs, &out, a.count);
+    a.answer
+}
+
+// The listing of any message.
+fn list_long(file: &[u8], message: &[u8], answer: usize, recs: &mut [Span]) -> Answer
+    ensures { λ r. ⌜ (r ≡ listing (now (file .entry)) (now (message .entry)) answer (now (recs .entry))) × (now (recs .exit) ≡ after (now (file .entry)) (now (message .entry)) answer (now (recs .entry))) ⌝ }
+{
+    let mut out = [0u16; 30720];
+    let n = recs.len();
+    let a = answer::counted(file, message, answer, n, &mut out);
+    write::write_rows(recs, &out, a.count);
+    a.answer
+}
 
 // Listing: sign file, message, answer number from 0, and the lent slice.
 pub fn list(file: &[u8], message: &[u8], answer: usize, recs: &mut [Span]) -> Answer
     ensures { λ r. ⌜ (r ≡ listing (now (file .entry)) (now (message .entry)) answer (now (recs .entry))) × (now (recs .exit) ≡ after (now (file .entry)) (now (message .entry)) answer (now (recs .entry))) ⌝ }
 {
-    let n = recs.len();
-    let a = answer::listed(file, message, answer, n);
-    write::write_records(recs, a.spans);
-    a.answer
+    if message.len() <= 256 {
+        return list_short(file, message, answer, recs);
+    }
+    list_long(file, message, answer, recs)
 }

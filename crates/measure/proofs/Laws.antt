@@ -1,4 +1,4 @@
--- The ways on and out of the loop over a text. Assumes nothing.
+-- The ways on and out of the loop over a text.
 use Prim.Native.Nat.{ℕ, zero, suc, _+_, _-_, _*_, _≤_, _<_}
 use mathlib.Core.Path.{_≡_, refl, sym, _∙_}
 use mathlib.Core.List.{List, [], _∷_}

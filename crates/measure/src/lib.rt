@@ -59,8 +59,8 @@ fn width_in(file: &[u8], entry: FontEntry, table: &[u16], code: u32) -> u16
     records::wide16(width) + 1
 }
 
-// The width of a short text, with a table of widths.
-fn width_by(file: &[u8], entry: FontEntry, table: &[u16], text: &[u8], spacing: u16) -> Measure
+// The width of a short text, with a table of the font's widths.
+pub fn width_by(file: &[u8], entry: FontEntry, table: &[u16], text: &[u8], spacing: u16) -> Measure
     requires { ⌜ Widths (charactersAt (now file) entry) (now table) ⌝ }
     requires { ⌜ length (now text) ≤ 65000 ⌝ }
     ensures { λ r. ⌜ r ≡ textWidth (charactersAt (now (file .entry)) entry) spacing (codes (now (text .entry))) ⌝ }
@@ -80,7 +80,7 @@ fn width_by(file: &[u8], entry: FontEntry, table: &[u16], text: &[u8], spacing: 
 }
 
 // The width of a short text: the font is walked once, or for each character of a text of two bytes at most.
-pub fn short_width(file: &[u8], entry: FontEntry, text: &[u8], spacing: u16) -> Measure
+fn short_width(file: &[u8], entry: FontEntry, text: &[u8], spacing: u16) -> Measure
     requires { ⌜ length (now text) ≤ 65000 ⌝ }
     ensures { λ r. ⌜ r ≡ textWidth (charactersAt (now (file .entry)) entry) spacing (codes (now (text .entry))) ⌝ }
 {

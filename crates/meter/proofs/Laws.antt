@@ -1,4 +1,4 @@
--- A span in its font, by the code's ways. Assumes nothing.
+-- A span in its font, by the code's ways.
 use Prim.Native.Nat.{ℕ, _+_, _-_, _<_}
 use mathlib.Core.Path.{_≡_, refl, sym, _∙_, ap}
 use mathlib.Core.Option.{Option, none, some}
@@ -21,6 +21,7 @@ use Rattle.sign.specs.declared.SignFile.{SignFile}
 use Rattle.sign.proofs.Answer.{Accepts, accepts}
 use Rattle.font.specs.Character.{characterIn, charactersAt}
 use Rattle.font.specs.Table.{fontNumbered, numbered, entryFound}
+use Rattle.font.specs.Widths.{Widths}
 use Rattle.font.specs.declared.Found.{Found}
 use Rattle.font.specs.declared.Found.the-variants.{Is, Missing as Absent}
 use Rattle.font.specs.declared.FontFound.{FontFound}
@@ -37,7 +38,7 @@ use Rattle.rows.specs.declared.Row.{Row}
 use Rattle.rows.specs.Measured.{flag, faultNumber, faultDetail, gaugeOf, rowBy, rowOf}
 use Rattle.rows.specs.declared.Gauge.{Gauge}
 use Rattle.meter.specs.declared.Fault.{Fault}
-use Rattle.meter.specs.Gauges.{fontsIn, meterIn, Opened, Narrow, Short, partCodes, fontAt, versionNumber, fault, faultBy, gaugeFor}
+use Rattle.meter.specs.Gauges.{fontsIn, meterIn, Opened, Held, Narrow, Short, partCodes, fontAt, versionNumber, fault, faultBy, gaugeFor}
 
 -- ---- widths
 
@@ -192,6 +193,20 @@ module _ (file : List ℕ) (t : SignFile) (b : Bytes file) (o : Opened file t) (
       go : (u : Option Font) → fontNumbered n (here .fs) ≡ u → entryFound u ≡ NoEntry → u ≡ none
       go none q r = refl
       go (some g) q r = never (let z : _≡_ {A = ℕ} 0 1 = cc in z)
+
+-- the widths of the font: f is the answer of `font_numbered`
+module _ (file : List ℕ) (t : SignFile) (n : ℕ) (widths : List ℕ) (f : FontFound) (e : f ≡ numbered n (take (t .count) (t .fonts))) where
+  pub held-none : f ≡ NoEntry → Held file t n widths
+  held-none p x q = never (let z : _≡_ {A = ℕ} 0 1 = cc in z)
+
+  module _ (x : FontEntry) (p : f ≡ EntryIs x) where
+    pub held-some : Widths (charactersAt file x) widths → Held file t n widths
+    held-some h y q =
+        let d : x ≡ y = cc in
+        rw d at h
+
+    pub held-here : Held file t n widths → Widths (charactersAt file x) widths
+    held-here h = h x (sym e ∙ p)
 
 -- the gauge of a span in the font that was found
 module _ (file msg : List ℕ) (e : Entry) (o : Option Font) (h : fontNumbered (e .state .font) (fontsIn (signFile file)) ≡ o) where

@@ -1,4 +1,4 @@
--- What the layers above use of the fonts' meter. Assumes nothing.
+-- What the layers above use of the fonts' meter.
 use Prim.Native.Nat.{ℕ, zero, suc, _+_, _<_}
 use mathlib.Core.Path.{_≡_, refl, subst}
 use mathlib.Core.Option.{Option, none, some}

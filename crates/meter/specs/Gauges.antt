@@ -14,7 +14,10 @@ use Rattle.sign.specs.Given.{given as tableOf}
 use Rattle.sign.specs.declared.FontEntry.{FontEntry}
 use Rattle.sign.specs.declared.SignFile.{SignFile}
 use Rattle.sign.specs.declared.Outcome.the-variants.{Accepted}
+use Rattle.font.specs.declared.FontFound.the-variants.{Entry as EntryIs}
 use Rattle.font.specs.Character.{charactersAt}
+use Rattle.font.specs.Table.{numbered}
+use Rattle.font.specs.Widths.{Widths}
 use Rattle.measure.specs.declared.Measure.{Measure}
 use Rattle.measure.specs.declared.Measure.the-variants.{Width, Missing}
 use Rattle.layout.specs.declared.Entry.{Entry}
@@ -35,6 +38,10 @@ meterIn file msg = meterOf msg (fontsIn (signFile file))
 -- the table was read from the file, which is accepted
 abbrev pub Opened : List ℕ → SignFile → Type 0
 Opened file t = (t ≡ tableOf (signFile file)) × (t .outcome ≡ Accepted)
+
+-- widths holds those of the font with a number, if the table has one
+abbrev pub Held : List ℕ → SignFile → ℕ → List ℕ → Type 0
+Held file t font widths = (f : FontEntry) → numbered font (take (t .count) (t .fonts)) ≡ EntryIs f → Widths (charactersAt file f) widths
 
 -- code points of 16 bits, as a refusal's detail has
 abbrev pub Narrow : List ℕ → Type 0

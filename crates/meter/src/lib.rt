@@ -5,10 +5,11 @@ ghost use mathlib.Core.Option.{none, some};
 ghost use Prim.Native.Nat.{_+_, _≤_, _<_};
 ghost use lib.ListN.{length};
 ghost use Rattle.font.specs.Character.{charactersAt};
+ghost use Rattle.font.specs.Widths.{Widths};
 ghost use Rattle.layout.specs.Fonts.{charsOf, widthOf};
 ghost use Rattle.measure.specs.Measure.{textWidth};
 ghost use Rattle.rows.specs.Measured.{flag as flagOf, gaugeOf, rowBy, rowOf};
-ghost use Rattle.meter.specs.Gauges.{Opened, Narrow, partCodes, Readable, Short, meterIn, fontAt, versionNumber, faultBy, gaugeFor};
+ghost use Rattle.meter.specs.Gauges.{Opened, Held, Narrow, partCodes, Readable, Short, meterIn, fontAt, versionNumber, faultBy, gaugeFor};
 use font::FontFound;
 use font::Found;
 use layout::Entry;
@@ -45,22 +46,38 @@ fn hex_width(file: &[u8], f: FontEntry, code: u16, spacing: u16) -> Measure
 }
 
 // The width of a text of the message.
-fn part_width(file: &[u8], f: FontEntry, msg: &[u8], e: Entry, spacing: u16) -> Measure
+fn part_width(
+    file: &[u8],
+    f: FontEntry,
+    widths: &[u16],
+    msg: &[u8],
+    e: Entry,
+    spacing: u16,
+) -> Measure
+    requires { ⌜ Widths (charactersAt (now file) f) (now widths) ⌝ }
     requires { ⌜ (e .start + e .len ≤ length (now msg)) × (length (now msg) ≤ 2048) × Narrow (partCodes (now msg) e) ⌝ }
     ensures { λ r. ⌜ (r ≡ textWidth (charactersAt (now (file .entry)) f) spacing (partCodes (now (msg .entry)) e)) × Short r ⌝ }
 {
     let start = e.start as usize;
     let end = start + e.len as usize;
-    measure::short_width(file, f, &msg[start..end], spacing)
+    measure::width_by(file, f, widths, &msg[start..end], spacing)
 }
 
 // The width of what a span prints.
-fn span_width(file: &[u8], f: FontEntry, msg: &[u8], e: Entry, spacing: u16) -> Measure
+fn span_width(
+    file: &[u8],
+    f: FontEntry,
+    widths: &[u16],
+    msg: &[u8],
+    e: Entry,
+    spacing: u16,
+) -> Measure
+    requires { ⌜ Widths (charactersAt (now file) f) (now widths) ⌝ }
     requires { ⌜ Readable (now msg) e ⌝ }
     ensures { λ r. ⌜ (r ≡ textWidth (charactersAt (now (file .entry)) f) spacing (charsOf (now (msg .entry)) e)) × Short r ⌝ }
 {
     if e.kind == 0 {
-        return part_width(file, f, msg, e, spacing);
+        return part_width(file, f, widths, msg, e, spacing);
     }
     if e.kind == 1 {
         return hex_width(file, f, e.code, spacing);
@@ -116,7 +133,8 @@ fn fault_by(version: u16, m: Measure) -> Fault
 }
 
 // A span in a font.
-fn gauge_in(file: &[u8], f: FontEntry, msg: &[u8], e: Entry) -> Gauge
+fn gauge_in(file: &[u8], f: FontEntry, widths: &[u16], msg: &[u8], e: Entry) -> Gauge
+    requires { ⌜ Widths (charactersAt (now file) f) (now widths) ⌝ }
     requires { ⌜ Readable (now msg) e ⌝ }
     ensures { λ r. ⌜ r ≡ gaugeFor (now (msg .entry)) e (some (fontAt (now (file .entry)) f)) ⌝ }
 {
@@ -124,7 +142,7 @@ fn gauge_in(file: &[u8], f: FontEntry, msg: &[u8], e: Entry) -> Gauge
     let char_spacing = st.char_spacing;
     let version = st.version;
     let spacing = layout::given(char_spacing, records::wide16(f.char_spacing));
-    let m = span_width(file, f, msg, e, spacing);
+    let m = span_width(file, f, widths, msg, e, spacing);
     let fault = fault_by(version_number(version, f.version_id), m);
     Gauge {
         spacing,
@@ -152,14 +170,27 @@ fn no_font(e: Entry) -> Gauge
     }
 }
 
-// What the fonts say of a span.
-fn gauge_of(file: &[u8], table: SignFile, msg: &[u8], e: Entry) -> Gauge
+// The widths of the font with a number, or zeros.
+pub fn widths_of(file: &[u8], table: SignFile, font: u8) -> [u16; 256]
+    ensures { λ r. ⌜ Held (now (file .entry)) table font r ⌝ }
+{
+    let mut widths = [0u16; 256];
+    let FontFound::Entry(f) = font::font_numbered(table, font) else {
+        return widths;
+    };
+    font::widths(file, f, &mut widths);
+    widths
+}
+
+// What the fonts say of a span: widths has those of its font.
+fn gauge_of(file: &[u8], table: SignFile, widths: &[u16], msg: &[u8], e: Entry) -> Gauge
     requires { ⌜ Opened (now file) table × Readable (now msg) e ⌝ }
+    requires { ⌜ Held (now file) table (e .state .font) (now widths) ⌝ }
     ensures { λ r. ⌜ r ≡ gaugeOf (meterIn (now (file .entry)) (now (msg .entry))) e ⌝ }
 {
     let st = e.state;
     match font::font_numbered(table, st.font) {
-        FontFound::Entry(f) => gauge_in(file, f, msg, e),
+        FontFound::Entry(f) => gauge_in(file, f, widths, msg, e),
         FontFound::Absent => no_font(e),
     }
 }
@@ -193,11 +224,12 @@ fn row_by(e: Entry, g: Gauge) -> Row
     }
 }
 
-// A span's row.
-pub fn row_of(file: &[u8], table: SignFile, msg: &[u8], e: Entry) -> Row
+// A span's row: widths has those of its font.
+pub fn row_of(file: &[u8], table: SignFile, widths: &[u16; 256], msg: &[u8], e: Entry) -> Row
     requires { ⌜ Opened (now file) table × Readable (now msg) e ⌝ }
+    requires { ⌜ Held (now file) table (e .state .font) (now widths) ⌝ }
     ensures { λ r. ⌜ (r ≡ rowOf (meterIn (now (file .entry)) (now (msg .entry))) e) × (r .line < 256) ⌝ }
 {
-    let g = gauge_of(file, table, msg, e);
+    let g = gauge_of(file, table, widths, msg, e);
     row_by(e, g)
 }

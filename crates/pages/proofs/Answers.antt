@@ -1,4 +1,4 @@
--- The answers, one after the other. Assumes nothing.
+-- The answers, one after the other.
 use Prim.Native.Nat.{ℕ, zero, suc, _≤_}
 use mathlib.Core.Path.{_≡_, refl, sym, _∙_, ap, subst}
 use mathlib.Core.Bool.{Bool, true, false}

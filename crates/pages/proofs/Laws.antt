@@ -1,4 +1,4 @@
--- A page, pass by pass. Assumes nothing.
+-- A page, pass by pass.
 use Prim.Native.Nat.{ℕ, suc, _+_, _≤_, _<_}
 use mathlib.Core.Path.{_≡_, refl, sym, _∙_, ap, subst}
 use mathlib.Core.Bool.{true}
@@ -62,28 +62,34 @@ run-pass s its a b st rs n = ap (λ (l : List Event). walk s l a b rs n) (read-p
 
 -- ---- the loop over the passes of a page
 
-pub record Stands (s : Board) (msg : List ℕ) (from : ℕ) (first : RenderState) (rows out : List ℕ) (at : ℕ) (st : RenderState) (n k : ℕ) : Type 0 where
+pub record Stands (s : Board) (msg : List ℕ) (from : ℕ) (first : RenderState) (R O : ℕ) (rows out : List ℕ) (at : ℕ) (st : RenderState) (n k : ℕ) : Type 0 where
   pub counted : n ≤ at
   pub begun : from ≤ at
   pub within : at ≤ length msg
   pub inside : Inside (s .config) (st .rect)
-  pub rowed : length rows ≡ 38912
-  pub room : length out ≡ 30720
+  pub rowed : length rows ≡ R
+  pub room : length out ≡ O
   pub same : (a b : ℕ) → run s (itemsFrom at msg) a b st (spansOf out n) k ≡ run s (itemsFrom from msg) a b first [] 0
 
-pub page-start : (s : Board) (msg : List ℕ) (from : ℕ) (first : RenderState) (rows out : List ℕ) → from ≤ length msg → Inside (s .config) (first .rect) → length rows ≡ 38912 → length out ≡ 30720 → Stands s msg from first rows out from first 0 0
+pub page-start : (s : Board) (msg : List ℕ) (from : ℕ) (first : RenderState) (rows out : List ℕ) → from ≤ length msg → Inside (s .config) (first .rect) → Stands s msg from first (length rows) (length out) rows out from first 0 0
 unfolding spansOf
-page-start s msg from first rows out h i l m = record { counted = omega arith; begun = omega arith; within = h; inside = i; rowed = l; room = m; same = λ a b. refl }
+page-start s msg from first rows out h i = record { counted = omega arith; begun = omega arith; within = h; inside = i; rowed = refl; room = refl; same = λ a b. refl }
 
 pub whole-inside : (c : Config) → Inside c (whole c)
 whole-inside c = record { across = omega arith; down = omega arith }
 
-module _ (s : Board) (msg : List ℕ) (from : ℕ) (first : RenderState) (rows out : List ℕ) (at : ℕ) (st : RenderState) (n k : ℕ) (z : Stands s msg from first rows out at st n k) where
+module _ (s : Board) (msg : List ℕ) (from : ℕ) (first : RenderState) (R O : ℕ) (rows out : List ℕ) (at : ℕ) (st : RenderState) (n k : ℕ) (z : Stands s msg from first R O rows out at st n k) where
   abbrev es : List Entry
   es = entriesOf (s .config) (itemsFrom at msg) st true
 
   -- a pass was read and placed: t is its end
-  module _ (rows′ out′ : List ℕ) (t : PassEnd) (e : told msg t ≡ placedEnding s es (endingOf (s .config) (itemsFrom at msg) st true)) (w : Written s es (spansOf out n) out′ t) (f : Fits (s .config) at (length msg) t) (l : length rows′ ≡ 38912) (m : length out′ ≡ 30720) where
+  module _ (rows′ out′ : List ℕ) (t : PassEnd) (e : told msg t ≡ placedEnding s es (endingOf (s .config) (itemsFrom at msg) st true)) (w : Written s es (spansOf out n) out′ t) (f : Fits (s .config) at (length msg) t) (p : length rows′ ≡ length rows) (q : length out′ ≡ length out) where
+    l : length rows′ ≡ R
+    l = p ∙ z .rowed
+
+    m : length out′ ≡ O
+    m = q ∙ z .room
+
     here : (a b : ℕ) (u : PassEnd) → t ≡ u → runBy s a b k (spansOf out n) es (told msg u) ≡ run s (itemsFrom from msg) a b first [] 0
     here a b u q = ap (λ (x : PassEnd). runBy s a b k (spansOf out n) es (told msg x)) (sym q) ∙ ap (runBy s a b k (spansOf out n) es) e ∙ sym (run-pass s (itemsFrom at msg) a b st (spansOf out n) k) ∙ z .same a b
 
@@ -97,11 +103,11 @@ module _ (s : Board) (msg : List ℕ) (from : ℕ) (first : RenderState) (rows o
     unfolding unless
     not-full h = rw (lt-ltb k 50 h)
 
-    pub page-refuse : (x : Refusal) → t ≡ RefusedPass x → ((a b : ℕ) → run s (itemsFrom from msg) a b first [] 0 ≡ pageTold s msg a b out′ (RefusedEnd x)) × PageFits (s .config) from (length msg) (RefusedEnd x) × (length rows′ ≡ 38912) × (length out′ ≡ 30720)
+    pub page-refuse : (x : Refusal) → t ≡ RefusedPass x → ((a b : ℕ) → run s (itemsFrom from msg) a b first [] 0 ≡ pageTold s msg a b out′ (RefusedEnd x)) × PageFits (s .config) from (length msg) (RefusedEnd x) × (length rows′ ≡ R) × (length out′ ≡ O)
     page-refuse x q = ((λ a b. sym (here a b (RefusedPass x) q)), tt, l, m)
 
     pub page-turn : (end i : ℕ) (r : Rect) (st′ : RenderState) (v : RenderState) → t ≡ TurnPass end i r st′ → k < 50 → v ≡ newPage (s .config) st′
-        → ((a b : ℕ) → run s (itemsFrom from msg) a b first [] 0 ≡ pageTold s msg a b out′ (NextEnd end i v)) × PageFits (s .config) from (length msg) (NextEnd end i v) × (length rows′ ≡ 38912) × (length out′ ≡ 30720)
+        → ((a b : ℕ) → run s (itemsFrom from msg) a b first [] 0 ≡ pageTold s msg a b out′ (NextEnd end i v)) × PageFits (s .config) from (length msg) (NextEnd end i v) × (length rows′ ≡ R) × (length out′ ≡ O)
     page-turn end i r st′ v q h d =
         let g : Fits (s .config) at (length msg) (TurnPass end i r st′) = fits (TurnPass end i r st′) q in (
           (λ a b. sym (here a b (TurnPass end i r st′) q) ∙ ap (λ (o : Option Refusal). stopAt o (on a (spansOf out n ++ passRecords s r es) ∷ offs b (turned s (itemsFrom end msg) a b (newPage (s .config) st′)))) (not-full h)
@@ -111,7 +117,7 @@ module _ (s : Board) (msg : List ℕ) (from : ℕ) (first : RenderState) (rows o
           m,
         )
 
-    pub page-end : (i : ℕ) (r : Rect) → t ≡ EndPass i r → k < 50 → ((a b : ℕ) → run s (itemsFrom from msg) a b first [] 0 ≡ pageTold s msg a b out′ (LastEnd i)) × PageFits (s .config) from (length msg) (LastEnd i) × (length rows′ ≡ 38912) × (length out′ ≡ 30720)
+    pub page-end : (i : ℕ) (r : Rect) → t ≡ EndPass i r → k < 50 → ((a b : ℕ) → run s (itemsFrom from msg) a b first [] 0 ≡ pageTold s msg a b out′ (LastEnd i)) × PageFits (s .config) from (length msg) (LastEnd i) × (length rows′ ≡ R) × (length out′ ≡ O)
     page-end i r q h = (
       (λ a b. sym (here a b (EndPass i r) q) ∙ ap (λ (o : Option Refusal). stopAt o (on a (spansOf out n ++ passRecords s r es) ∷ offs b [])) (not-full h) ∙ ap (λ (y : List Span). on a y ∷ offs b []) (sym (written (EndPass i r) q))),
       fits (EndPass i r) q,
@@ -119,7 +125,7 @@ module _ (s : Board) (msg : List ℕ) (from : ℕ) (first : RenderState) (rows o
       m,
     )
 
-    pub page-cut : (end i : ℕ) (r : Rect) (st′ : RenderState) → t ≡ CutPass end i r st′ → k < 50 → Stands s msg from first rows′ out′ end st′ i (k + 1)
+    pub page-cut : (end i : ℕ) (r : Rect) (st′ : RenderState) → t ≡ CutPass end i r st′ → k < 50 → Stands s msg from first R O rows′ out′ end st′ i (k + 1)
     page-cut end i r st′ q h =
         let g : Fits (s .config) at (length msg) (CutPass end i r st′) = fits (CutPass end i r st′) q in
         record {
@@ -154,7 +160,7 @@ module _ (s : Board) (msg : List ℕ) (from : ℕ) (first : RenderState) (rows o
     last-fits (TurnPass end i r st′) = tt
     last-fits (EndPass i r) = tt
 
-    pub page-last : (v : PageEnd) → 50 ≤ k → v ≡ lastOf t → ((a b : ℕ) → run s (itemsFrom from msg) a b first [] 0 ≡ pageTold s msg a b out′ v) × PageFits (s .config) from (length msg) v × (length rows′ ≡ 38912) × (length out′ ≡ 30720)
+    pub page-last : (v : PageEnd) → 50 ≤ k → v ≡ lastOf t → ((a b : ℕ) → run s (itemsFrom from msg) a b first [] 0 ≡ pageTold s msg a b out′ v) × PageFits (s .config) from (length msg) v × (length rows′ ≡ R) × (length out′ ≡ O)
     page-last v h d = (
       (λ a b. last-is h t refl a b ∙ ap (pageTold s msg a b out′) (sym d)),
       subst (PageFits (s .config) from (length msg)) (sym d) (last-fits t),

@@ -1,4 +1,4 @@
--- A pass that is read and placed. Assumes nothing.
+-- A pass that is read and placed.
 use Prim.Native.Nat.{ℕ, _+_, _≤_}
 use mathlib.Core.Path.{_≡_, refl, sym, _∙_, ap, subst}
 use mathlib.Core.Bool.{true}
@@ -59,14 +59,14 @@ module _ (file : List ℕ) (table : SignFile) (msg : List ℕ) (from : ℕ) (st 
 
   -- what `place_read` asks of a pass of n spans
   abbrev Asks : Rect → ℕ → Type 0
-  Asks r n = (at + n ≤ 2048) × (length rows ≡ 38912) × (r .left + r .width ≤ 4096) × (r .top + r .height ≤ 4096) × smallFaults rows n
+  Asks r n = (at + n ≤ 2048) × (at + n ≤ length msg) × (r .left + r .width ≤ 4096) × (r .top + r .height ≤ 4096) × smallFaults rows n
 
-  asks : (r : Rect) (n : ℕ) → from + n ≤ 2048 → length rows ≡ 38912 → Inside c r → rowsOf rows n ≡ map (rowOf (meterIn file msg)) es → Asks r n
-  asks r n h l i q =
+  asks : (r : Rect) (n : ℕ) → from + n ≤ length msg → Inside c r → rowsOf rows n ≡ map (rowOf (meterIn file msg)) es → Asks r n
+  asks r n h i q =
       let a : Accepts file table = accepts file table (o .0) b (o .1) in
-      (omega arith, l, omega (arith, i .across, a .good .config .width-most), omega (arith, i .down, a .good .config .height-most), λ j p. rows-small file msg rows n es q j p)
+      (omega arith, omega arith, omega (arith, i .across, a .good .config .width-most), omega (arith, i .down, a .good .config .height-most), λ j p. rows-small file msg rows n es q j p)
 
-  module _ (e : told msg t ≡ end) (w : Rows (rowOf (meterIn file msg)) es rows t) (f : Fair c from (length msg) t) (l : length rows ≡ 38912) where
+  module _ (e : told msg t ≡ end) (w : Rows (rowOf (meterIn file msg)) es rows t) (f : Fair c from (length msg) t) where
     rowed : (u : PassEnd) → t ≡ u → Rows (rowOf (meterIn file msg)) es rows u
     rowed u q = subst (Rows (rowOf (meterIn file msg)) es rows) q w
 
@@ -74,13 +74,13 @@ module _ (file : List ℕ) (table : SignFile) (msg : List ℕ) (from : ℕ) (st 
     fair u q = subst (Fair c from (length msg)) q f
 
     pub cut-asks : (z n : ℕ) (r : Rect) (st′ : RenderState) → t ≡ CutPass z n r st′ → Asks r n
-    cut-asks z n r st′ q = let g : Fair c from (length msg) (CutPass z n r st′) = fair (CutPass z n r st′) q in asks r n (omega (arith, g .0, g .1)) l (g .2) (rowed (CutPass z n r st′) q)
+    cut-asks z n r st′ q = let g : Fair c from (length msg) (CutPass z n r st′) = fair (CutPass z n r st′) q in asks r n (omega (arith, g .0, g .1)) (g .2) (rowed (CutPass z n r st′) q)
 
     pub turn-asks : (z n : ℕ) (r : Rect) (st′ : RenderState) → t ≡ TurnPass z n r st′ → Asks r n
-    turn-asks z n r st′ q = let g : Fair c from (length msg) (TurnPass z n r st′) = fair (TurnPass z n r st′) q in asks r n (omega (arith, g .0, g .1)) l (g .2) (rowed (TurnPass z n r st′) q)
+    turn-asks z n r st′ q = let g : Fair c from (length msg) (TurnPass z n r st′) = fair (TurnPass z n r st′) q in asks r n (omega (arith, g .0, g .1)) (g .2) (rowed (TurnPass z n r st′) q)
 
     pub end-asks : (n : ℕ) (r : Rect) → t ≡ EndPass n r → Asks r n
-    end-asks n r q = let g : Fair c from (length msg) (EndPass n r) = fair (EndPass n r) q in asks r n (omega (arith, g .0)) l (g .1) (rowed (EndPass n r) q)
+    end-asks n r q = let g : Fair c from (length msg) (EndPass n r) = fair (EndPass n r) q in asks r n (omega (arith, g .0)) (g .1) (rowed (EndPass n r) q)
 
     -- what is promised of the end v, with rs the records before and out those after
     abbrev Done : List Span → List ℕ → PassEnd → Type 0

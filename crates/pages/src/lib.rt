@@ -3,7 +3,7 @@ ghost use mathlib.Core.Path.{_≡_};
 ghost use mathlib.Core.Bool.{true};
 ghost use mathlib.Core.List.{[], _++_};
 ghost use mathlib.Core.Option.{none};
-ghost use Prim.Native.Nat.{ℕ, _+_, _≤_, _<_};
+ghost use Prim.Native.Nat.{ℕ, _+_, _*_, _≤_, _<_};
 ghost use lib.ListN.{length};
 ghost use Rattle.page.specs.Scan.{itemsFrom};
 ghost use Rattle.rows.specs.Rows.{rowsOf, spansOf};
@@ -44,7 +44,7 @@ pub enum NextPage {
     Refused(Refusal),
 }
 
-// A pass is placed after the at records before it; end is how it ends.
+// Places the n rows of a pass as records from number at on: its refusal, or end, which is how it ended.
 fn place_read(
     c: Config,
     rect: Rect,
@@ -54,10 +54,10 @@ fn place_read(
     at: usize,
     end: PassEnd,
 ) -> PassEnd
-    requires { ⌜ (at + n ≤ 2048) × (length (now rows) ≡ 38912) × (length (now out) ≡ 30720) × (rect .left + rect .width ≤ 4096) × (rect .top + rect .height ≤ 4096) × smallFaults (now rows) n ⌝ }
+    requires { ⌜ (at + n ≤ 2048) × (19 * n ≤ length (now rows)) × (15 * (at + n) ≤ length (now out)) × (rect .left + rect .width ≤ 4096) × (rect .top + rect .height ≤ 4096) × smallFaults (now rows) n ⌝ }
     ensures { λ r. ⌜ (r ≡ orRefused (rowsFault c rect (rowsOf (now (rows .entry)) n)) end)
         × (rowsFault c rect (rowsOf (now (rows .entry)) n) ≡ none → spansOf (now (out .exit)) (at + n) ≡ spansOf (now (out .entry)) at ++ rowsRecords c rect (rowsOf (now (rows .entry)) n))
-        × (length (now (out .exit)) ≡ 30720) ⌝ }
+        × (length (now (out .exit)) ≡ length (now (out .entry))) ⌝ }
 {
     match place::place_pass(c, rect, rows, n, out, at) {
         OptRefusal::Some(r) => PassEnd::Refused(r),
@@ -76,11 +76,11 @@ fn render_pass(
     out: &mut [u16],
     at: usize,
 ) -> PassEnd
-    requires { ⌜ Opened (now file) table × (length (now msg) ≤ 2048) × (from ≤ length (now msg)) × (at ≤ from) × (length (now rows) ≡ 38912) × (length (now out) ≡ 30720) × Inside (table .config) (st .rect) ⌝ }
+    requires { ⌜ Opened (now file) table × (length (now msg) ≤ 2048) × (from ≤ length (now msg)) × (at ≤ from) × (19 * length (now msg) ≤ length (now rows)) × (15 * length (now msg) ≤ length (now out)) × Inside (table .config) (st .rect) ⌝ }
     ensures { λ r. ⌜ (told (now (msg .entry)) r ≡ placedEnding (boardIn (now (file .entry)) (now (msg .entry)) (table .config)) (entriesOf (table .config) (itemsFrom from (now (msg .entry))) st true) (endingOf (table .config) (itemsFrom from (now (msg .entry))) st true))
         × Written (boardIn (now (file .entry)) (now (msg .entry)) (table .config)) (entriesOf (table .config) (itemsFrom from (now (msg .entry))) st true) (spansOf (now (out .entry)) at) (now (out .exit)) r
         × Fits (table .config) from (length (now (msg .entry))) r
-        × (length (now (rows .exit)) ≡ 38912) × (length (now (out .exit)) ≡ 30720) ⌝ }
+        × (length (now (rows .exit)) ≡ length (now (rows .entry))) × (length (now (out .exit)) ≡ length (now (out .entry))) ⌝ }
 {
     let c = table.config;
     match pass::read_pass(file, table, msg, from, st, rows) {
@@ -141,10 +141,10 @@ fn render_page(
     rows: &mut [u16],
     out: &mut [u16],
 ) -> PageEnd
-    requires { ⌜ Opened (now file) table × (length (now msg) ≤ 2048) × (from ≤ length (now msg)) × (length (now rows) ≡ 38912) × (length (now out) ≡ 30720) × Inside (table .config) (start .rect) ⌝ }
+    requires { ⌜ Opened (now file) table × (length (now msg) ≤ 2048) × (from ≤ length (now msg)) × (19 * length (now msg) ≤ length (now rows)) × (15 * length (now msg) ≤ length (now out)) × Inside (table .config) (start .rect) ⌝ }
     ensures { λ r. ⌜ ((a b : ℕ) → run (boardIn (now (file .entry)) (now (msg .entry)) (table .config)) (itemsFrom from (now (msg .entry))) a b start [] 0 ≡ pageTold (boardIn (now (file .entry)) (now (msg .entry)) (table .config)) (now (msg .entry)) a b (now (out .exit)) r)
         × PageFits (table .config) from (length (now (msg .entry))) r
-        × (length (now (rows .exit)) ≡ 38912) × (length (now (out .exit)) ≡ 30720) ⌝ }
+        × (length (now (rows .exit)) ≡ length (now (rows .entry))) × (length (now (out .exit)) ≡ length (now (out .entry))) ⌝ }
 {
     let c = table.config;
     let mut at = from;
@@ -173,7 +173,7 @@ fn render_page(
     last_pass(render_pass(file, table, msg, at, st, rows, out, n))
 }
 
-// What follows a page that ended so.
+// The answer of an on page that ended so, and what follows it.
 fn shown(p: Pages, on: u16, off: u16, end: PageEnd) -> NextPage
     ensures { λ r. ⌜ r ≡ shownBy p on off end ⌝ }
 {
@@ -214,10 +214,10 @@ fn render_on_page(
     rows: &mut [u16],
     out: &mut [u16],
 ) -> NextPage
-    requires { ⌜ Opened (now file) table × (length (now msg) ≤ 2048) × Sound (table .config) (length (now msg)) p × (length (now rows) ≡ 38912) × (length (now out) ≡ 30720) ⌝ }
+    requires { ⌜ Opened (now file) table × (length (now msg) ≤ 2048) × Sound (table .config) (length (now msg)) p × (19 * length (now msg) ≤ length (now rows)) × (15 * length (now msg) ≤ length (now out)) ⌝ }
     ensures { λ r. ⌜ (turned (boardIn (now (file .entry)) (now (msg .entry)) (table .config)) (itemsFrom (p .at) (now (msg .entry))) (p .on) (p .off) (p .«render_state») ≡ nextTold (boardIn (now (file .entry)) (now (msg .entry)) (table .config)) (now (msg .entry)) (now (out .exit)) r)
         × Keeps (table .config) (length (now (msg .entry))) (p .at) 2 r
-        × (length (now (rows .exit)) ≡ 38912) × (length (now (out .exit)) ≡ 30720) ⌝ }
+        × (length (now (rows .exit)) ≡ length (now (rows .entry))) × (length (now (out .exit)) ≡ length (now (out .entry))) ⌝ }
 {
     let c = table.config;
     let s = page::scan(msg, p.at, c, p.on, p.off);
@@ -257,10 +257,10 @@ pub fn next(
     rows: &mut [u16],
     out: &mut [u16],
 ) -> NextPage
-    requires { ⌜ Opened (now file) table × (length (now msg) ≤ 2048) × Sound (table .config) (length (now msg)) p × (length (now rows) ≡ 38912) × (length (now out) ≡ 30720) ⌝ }
+    requires { ⌜ Opened (now file) table × (length (now msg) ≤ 2048) × Sound (table .config) (length (now msg)) p × (19 * length (now msg) ≤ length (now rows)) × (15 * length (now msg) ≤ length (now out)) ⌝ }
     ensures { λ r. ⌜ (todo (boardIn (now (file .entry)) (now (msg .entry)) (table .config)) (now (msg .entry)) p ≡ nextTold (boardIn (now (file .entry)) (now (msg .entry)) (table .config)) (now (msg .entry)) (now (out .exit)) r)
         × Keeps (table .config) (length (now (msg .entry))) (p .at) (weight (p .«page_state»)) r
-        × (length (now (rows .exit)) ≡ 38912) × (length (now (out .exit)) ≡ 30720) ⌝ }
+        × (length (now (rows .exit)) ≡ length (now (rows .entry))) × (length (now (out .exit)) ≡ length (now (out .entry))) ⌝ }
 {
     let state = p.page_state;
     match state {

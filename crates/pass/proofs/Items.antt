@@ -1,4 +1,4 @@
--- What an item is to its step: its place alone; and a text has code points of 16 bits. Assumes nothing.
+-- What an item is to its step: its place alone; and a text has code points of 16 bits.
 use Prim.Native.Nat.{ℕ, _<_}
 use mathlib.Core.Path.{_≡_, refl, ap}
 use mathlib.Core.Bool.{Bool, true, false}

@@ -1,5 +1,5 @@
--- The ways on and out of a pass, and how layout's `read` is made of passes. Assumes nothing.
-use Prim.Native.Nat.{ℕ, _+_, _-_, _%_, _≤_, _<_}
+-- The ways on and out of a pass.
+use Prim.Native.Nat.{ℕ, _*_, _+_, _-_, _%_, _≤_, _<_}
 use mathlib.Core.Path.{_≡_, refl, sym, _∙_, ap, subst}
 use mathlib.Core.Bool.{Bool, true, _&&_}
 use mathlib.Core.List.{List, [], _∷_, _++_, map, append-assoc, append-nil}
@@ -34,7 +34,7 @@ use Rattle.rows.proofs.Laws.{rows-put}
 use Rattle.sign.specs.Accepted.{Bytes}
 use Rattle.sign.specs.declared.SignFile.{SignFile}
 use Rattle.sign.proofs.Answer.{Accepts, accepts}
-use Rattle.meter.specs.Gauges.{Opened, Narrow, partCodes, Readable}
+use Rattle.meter.specs.Gauges.{Opened, Held, Narrow, partCodes, Readable}
 use Rattle.pass.specs.declared.PassEnd.the-variants.{Refused as RefusedBy, Cut as CutBy, Turn as TurnBy, End as EndBy}
 use Rattle.pass.specs.Pass.{ended, entriesBy, entriesOf, endingBy, endingOf, stepAt, told, Rows, Inside, Fair}
 use Rattle.pass.proofs.Items.{spoken-narrow, item-same}
@@ -67,18 +67,19 @@ unfolding itemsFrom
 items-end at l h = ap (map itemAt) (cuts-end at l h)
 
 -- where the loop stands: f is the row of an entry, first the state it began with
-pub record Stands (f : Entry → Row) (c : Config) (msg : List ℕ) (from : ℕ) (first : RenderState) (rows : List ℕ) (st : RenderState) (blank : Bool) (at n : ℕ) : Type 0 where
+pub record Stands (f : Entry → Row) (c : Config) (msg : List ℕ) (from : ℕ) (first : RenderState) (R : ℕ) (rows : List ℕ) (st : RenderState) (blank : Bool) (at n : ℕ) : Type 0 where
   pub counted : from + n ≤ at
   pub within : at ≤ length msg
-  pub room : length rows ≡ 38912
+  pub enough : 19 * length msg ≤ R
+  pub room : length rows ≡ R
   pub inside : Inside c (st .rect)
   pub ending : endingOf c (itemsFrom at msg) st blank ≡ endingOf c (itemsFrom from msg) first true
   pub entries : rowsOf rows n ++ map f (entriesOf c (itemsFrom at msg) st blank) ≡ map f (entriesOf c (itemsFrom from msg) first true)
 
-module _ (f : Entry → Row) (c : Config) (msg : List ℕ) (from : ℕ) (first : RenderState) (rows : List ℕ) (st : RenderState) (blank : Bool) (at n : ℕ)
-    (z : Stands f c msg from first rows st blank at n) where
+module _ (f : Entry → Row) (c : Config) (msg : List ℕ) (from : ℕ) (first : RenderState) (R : ℕ) (rows : List ℕ) (st : RenderState) (blank : Bool) (at n : ℕ)
+    (z : Stands f c msg from first R rows st blank at n) where
   -- the message's end
-  pub pass-end : length msg ≤ at → (told msg (EndBy n (st .rect)) ≡ endingOf c (itemsFrom from msg) first true) × Rows f (entriesOf c (itemsFrom from msg) first true) rows (EndBy n (st .rect)) × Fair c from (length msg) (EndBy n (st .rect)) × (length rows ≡ 38912)
+  pub pass-end : length msg ≤ at → (told msg (EndBy n (st .rect)) ≡ endingOf c (itemsFrom from msg) first true) × Rows f (entriesOf c (itemsFrom from msg) first true) rows (EndBy n (st .rect)) × Fair c from (length msg) (EndBy n (st .rect)) × (length rows ≡ R)
   pass-end h = (
     sym (last-ending (itemsFrom at msg) none-left) ∙ z .ending,
     sym (append-nil (rowsOf rows n)) ∙ ap (λ (l : List Row). rowsOf rows n ++ l) (sym (last-entries (itemsFrom at msg) none-left)) ∙ z .entries,
@@ -140,10 +141,10 @@ module _ (f : Entry → Row) (c : Config) (msg : List ℕ) (from : ℕ) (first :
     fair-of : (u : Step) → t ≡ u → FairStep msg c st (itemAt slice) u
     fair-of u q = subst (FairStep msg c st (itemAt slice)) q fair
 
-    pub pass-refuse : (x : Refusal) → t ≡ Refuse x → (told msg (RefusedBy x) ≡ endingOf c (itemsFrom from msg) first true) × Rows f (entriesOf c (itemsFrom from msg) first true) rows (RefusedBy x) × Fair c from (length msg) (RefusedBy x) × (length rows ≡ 38912)
+    pub pass-refuse : (x : Refusal) → t ≡ Refuse x → (told msg (RefusedBy x) ≡ endingOf c (itemsFrom from msg) first true) × Rows f (entriesOf c (itemsFrom from msg) first true) rows (RefusedBy x) × Fair c from (length msg) (RefusedBy x) × (length rows ≡ R)
     pass-refuse x q = (ends (Refuse x) q, tt, tt, z .room)
 
-    pub pass-cut : (st′ : RenderState) → t ≡ Cut st′ → (told msg (CutBy r n (st .rect) st′) ≡ endingOf c (itemsFrom from msg) first true) × Rows f (entriesOf c (itemsFrom from msg) first true) rows (CutBy r n (st .rect) st′) × Fair c from (length msg) (CutBy r n (st .rect) st′) × (length rows ≡ 38912)
+    pub pass-cut : (st′ : RenderState) → t ≡ Cut st′ → (told msg (CutBy r n (st .rect) st′) ≡ endingOf c (itemsFrom from msg) first true) × Rows f (entriesOf c (itemsFrom from msg) first true) rows (CutBy r n (st .rect) st′) × Fair c from (length msg) (CutBy r n (st .rect) st′) × (length rows ≡ R)
     pass-cut st′ q = (
       ends (Cut st′) q,
       sym (append-nil (rowsOf rows n)) ∙ spans (Cut st′) q,
@@ -151,7 +152,7 @@ module _ (f : Entry → Row) (c : Config) (msg : List ℕ) (from : ℕ) (first :
       z .room,
     )
 
-    pub pass-turn : t ≡ Turn → (told msg (TurnBy r n (st .rect) st) ≡ endingOf c (itemsFrom from msg) first true) × Rows f (entriesOf c (itemsFrom from msg) first true) rows (TurnBy r n (st .rect) st) × Fair c from (length msg) (TurnBy r n (st .rect) st) × (length rows ≡ 38912)
+    pub pass-turn : t ≡ Turn → (told msg (TurnBy r n (st .rect) st) ≡ endingOf c (itemsFrom from msg) first true) × Rows f (entriesOf c (itemsFrom from msg) first true) rows (TurnBy r n (st .rect) st) × Fair c from (length msg) (TurnBy r n (st .rect) st) × (length rows ≡ R)
     pass-turn q = (
       ends Turn q,
       sym (append-nil (rowsOf rows n)) ∙ spans Turn q,
@@ -159,11 +160,12 @@ module _ (f : Entry → Row) (c : Config) (msg : List ℕ) (from : ℕ) (first :
       z .room,
     )
 
-    pub pass-go : (st′ : RenderState) (b : Bool) → t ≡ Go st′ b → Stands f c msg from first rows st′ b r n
+    pub pass-go : (st′ : RenderState) (b : Bool) → t ≡ Go st′ b → Stands f c msg from first R rows st′ b r n
     pass-go st′ b q =
         record {
           counted = omega (arith, z .counted, more);
           within = past;
+          enough = z .enough;
           room = z .room;
           inside = same-inside c (st′ .rect) (st .rect) ((fair-of (Go st′ b) q) .0) (z .inside);
           ending = ends (Go st′ b) q;
@@ -199,25 +201,40 @@ module _ (f : Entry → Row) (c : Config) (msg : List ℕ) (from : ℕ) (first :
       pub pass-room : n < 2048
       pass-room = omega (arith, z .counted, h)
 
-      pub pass-emit : (row : Row) → row ≡ f x → row .line < 256 → (m : List ℕ) → m ≡ putRow rows n row → length m ≡ 38912 → Stands f c msg from first m st′ b r (n + 1)
+      pub pass-fits : 19 * n + 19 ≤ length rows
+      pass-fits = omega (arith, z .counted, h, z .enough, z .room)
+
+      pub pass-emit : (row : Row) → row ≡ f x → row .line < 256 → (m : List ℕ) → m ≡ putRow rows n row → length m ≡ length rows → Stands f c msg from first R m st′ b r (n + 1)
       pass-emit row p k m d l =
           record {
             counted = omega (arith, z .counted, more);
             within = past;
-            room = l;
+            enough = z .enough;
+            room = l ∙ z .room;
             inside = same-inside c (st′ .rect) (st .rect) (spoke .0) (z .inside);
             ending = ends (Emit x st′ b) q;
             entries =
                 ap (λ (y : List ℕ). rowsOf y (n + 1) ++ map f (entriesOf c (itemsFrom r msg) st′ b)) d
-                ∙ ap (λ (y : List Row). y ++ map f (entriesOf c (itemsFrom r msg) st′ b)) (rows-put rows n row pass-room (z .room) k ∙ ap (λ (y : Row). rowsOf rows n ++ (y ∷ [])) p)
+                ∙ ap (λ (y : List Row). y ++ map f (entriesOf c (itemsFrom r msg) st′ b)) (rows-put rows n row pass-fits k ∙ ap (λ (y : Row). rowsOf rows n ++ (y ∷ [])) p)
                 ∙ append-assoc (rowsOf rows n) (f x ∷ []) (map f (entriesOf c (itemsFrom r msg) st′ b))
                 ∙ spans (Emit x st′ b) q;
           }
 
 -- where the loop begins
-pub pass-start : (f : Entry → Row) (c : Config) (msg : List ℕ) (from : ℕ) (first : RenderState) (rows : List ℕ) → from ≤ length msg → length rows ≡ 38912 → Inside c (first .rect) → Stands f c msg from first rows first true from 0
+pub pass-start : (f : Entry → Row) (c : Config) (msg : List ℕ) (from : ℕ) (first : RenderState) (rows : List ℕ) → from ≤ length msg → 19 * length msg ≤ length rows → Inside c (first .rect) → Stands f c msg from first (length rows) rows first true from 0
 unfolding rowsOf
-pass-start f c msg from first rows h l i = record { counted = omega arith; within = h; room = l; inside = i; ending = refl; entries = refl }
+pass-start f c msg from first rows h l i = record { counted = omega arith; within = h; enough = l; room = refl; inside = i; ending = refl; entries = refl }
+
+-- ---- the widths of a font
+
+module _ (file : List ℕ) (t : SignFile) (font r : ℕ) (e : r ≡ font) (widths : List ℕ) where
+  pub held-same : font < 256 → (held : ℕ) → (held < 256 → Held file t held widths) → held ≡ r → Held file t font widths
+  held-same b held h q =
+      let d : held ≡ font = q ∙ e in
+      subst (λ (n : ℕ). Held file t n widths) d (h (rw d b))
+
+  pub held-next : Held file t font widths → r < 256 → Held file t r widths
+  held-next h b = rw e h
 
 -- ---- a step
 

@@ -1,4 +1,4 @@
--- layout's `read`, pass by pass. Assumes nothing.
+-- layout's `read`, pass by pass.
 use Prim.Native.Nat.{ℕ}
 use mathlib.Core.Path.{_≡_, refl, _∙_, ap}
 use mathlib.Core.Bool.{Bool, true}

@@ -1,14 +1,14 @@
 // Reading a pass: the values of a message up to [tr], [np] or the end, into rows of measured spans.
 ghost use mathlib.Core.Path.{_≡_};
 ghost use mathlib.Core.Bool.{true};
-ghost use Prim.Native.Nat.{_+_, _-_, _≤_, _<_};
+ghost use Prim.Native.Nat.{_+_, _*_, _-_, _≤_, _<_};
 ghost use lib.ListN.{length, take, drop};
 ghost use Rattle.layout.specs.Read.{itemStep};
 ghost use Rattle.page.specs.Scan.{itemsFrom};
 ghost use Rattle.reading.specs.Reading.{place};
 ghost use Rattle.render.specs.Steps.{itemAt};
 ghost use Rattle.rows.specs.Measured.{rowOf};
-ghost use Rattle.meter.specs.Gauges.{Opened, meterIn};
+ghost use Rattle.meter.specs.Gauges.{Opened, Held, meterIn};
 ghost use Rattle.pass.specs.Pass.{Inside, Fair, stepAt, entriesOf, endingOf, told, Rows};
 use layout::Rect;
 use layout::RenderState;
@@ -58,6 +58,19 @@ fn step_at(msg: &[u8], at: usize, end: usize, c: Config, st: RenderState, blank:
     step_by(c, st, blank, p, item)
 }
 
+// Fills the widths anew if they are not the font's. Held, and answered, is the font whose widths they are; 256 is none.
+fn keep(file: &[u8], table: SignFile, font: u8, held: u16, widths: &mut [u16; 256]) -> u16
+    requires { ⌜ (held < 256 → Held (now file) table held (now widths)) ⌝ }
+    ensures { λ r. ⌜ (r ≡ font) × Held (now (file .entry)) table font (now (widths .exit)) ⌝ }
+{
+    let wanted = records::wide16(font);
+    if held == wanted {
+        return wanted;
+    }
+    *widths = meter::widths_of(file, table, font);
+    wanted
+}
+
 // The pass from a place on. Its spans' rows stand first in the slice.
 pub fn read_pass(
     file: &[u8],
@@ -67,17 +80,19 @@ pub fn read_pass(
     start: RenderState,
     rows: &mut [u16],
 ) -> PassEnd
-    requires { ⌜ Opened (now file) table × (length (now msg) ≤ 2048) × (from ≤ length (now msg)) × (length (now rows) ≡ 38912) × Inside (table .config) (start .rect) ⌝ }
+    requires { ⌜ Opened (now file) table × (length (now msg) ≤ 2048) × (from ≤ length (now msg)) × (19 * length (now msg) ≤ length (now rows)) × Inside (table .config) (start .rect) ⌝ }
     ensures { λ r. ⌜ (told (now (msg .entry)) r ≡ endingOf (table .config) (itemsFrom from (now (msg .entry))) start true)
         × Rows (rowOf (meterIn (now (file .entry)) (now (msg .entry)))) (entriesOf (table .config) (itemsFrom from (now (msg .entry))) start true) (now (rows .exit)) r
         × Fair (table .config) from (length (now (msg .entry))) r
-        × (length (now (rows .exit)) ≡ 38912) ⌝ }
+        × (length (now (rows .exit)) ≡ length (now (rows .entry))) ⌝ }
 {
     let c = table.config;
     let mut st = start;
     let mut blank = true;
     let mut at = from;
     let mut n: usize = 0;
+    let mut widths = [0u16; 256];
+    let mut held: u16 = 256;
     while at < msg.len() {
         let end = token::slice_end(msg, at);
         match step_at(msg, at, end, c, st, blank) {
@@ -90,7 +105,8 @@ pub fn read_pass(
                 at = end;
             }
             Step::Emit(e, next, b) => {
-                rows::put_row(rows, n, meter::row_of(file, table, msg, e));
+                held = keep(file, table, e.state.font, held, &mut widths);
+                rows::put_row(rows, n, meter::row_of(file, table, &widths, msg, e));
                 st = next;
                 blank = b;
                 at = end;

@@ -1,4 +1,4 @@
--- What a pass of measured entries answers is what the layout says of them. Assumes nothing.
+-- What a pass of measured entries answers is what the layout says of them.
 use Prim.Native.Nat.{ℕ}
 use mathlib.Core.Path.{_≡_, refl, _∙_, ap}
 use mathlib.Core.Bool.{Bool, true, false, not, _&&_}

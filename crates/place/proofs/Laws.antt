@@ -1,4 +1,4 @@
--- What the code of a pass answers, way by way. Assumes nothing.
+-- What the code of a pass answers, way by way.
 use Prim.Native.Nat.{ℕ, zero, suc, _+_, _-_, _*_, _/_, _≤_, _<_}
 use mathlib.Core.Path.{_≡_, refl, sym, _∙_, ap}
 use mathlib.Core.Bool.{Bool, true, false, not}
@@ -336,13 +336,13 @@ module _ (c : Config) (q : Rect) (rows : List ℕ) (n : ℕ) where
           sym (none-first (spanFaultAt c q (rowsOf rows n) r) (firstFault (spanFaultAt c q (rowsOf rows n)) (cells (rowAt rows) (i + 1) (n - (i + 1)))) (fits-in .0))
           ∙ ap (firstFault (spanFaultAt c q (rowsOf rows n))) (sym ahead) ∙ inv
 
-      pub records-on : (at : ℕ) (out new : List ℕ) (w : List Span) → at + n ≤ 2048 → length out ≡ 30720 → new ≡ putSpan out (at + i) s
+      pub records-on : (at : ℕ) (out new : List ℕ) (w : List Span) → 15 * (at + n) ≤ length out → new ≡ putSpan out (at + i) s
           → spansOf out (at + i) ++ map (recordAt c q (rowsOf rows n)) (cells (rowAt rows) i (n - i)) ≡ w
           → spansOf new (at + (i + 1)) ++ map (recordAt c q (rowsOf rows n)) (cells (rowAt rows) (i + 1) (n - (i + 1))) ≡ w
-      records-on at out new w m z g inv =
+      records-on at out new w m g inv =
           let rest : List Span = map (recordAt c q (rowsOf rows n)) (cells (rowAt rows) (i + 1) (n - (i + 1))) in
           let x : at + (i + 1) ≡ at + i + 1 = omega arith in
-          let y : spansOf new (at + (i + 1)) ≡ spansOf out (at + i) ++ (s ∷ []) = ap (spansOf new) x ∙ ap (λ (l : List ℕ). spansOf l (at + i + 1)) g ∙ spans-put out (at + i) s (omega arith) z in
+          let y : spansOf new (at + (i + 1)) ≡ spansOf out (at + i) ++ (s ∷ []) = ap (spansOf new) x ∙ ap (λ (l : List ℕ). spansOf l (at + i + 1)) g ∙ spans-put out (at + i) s (omega arith) in
           ap (λ (l : List Span). l ++ rest) y ∙ append-assoc (spansOf out (at + i)) (s ∷ []) rest
           ∙ ap (λ (t : Span). spansOf out (at + i) ++ (t ∷ rest)) (fits-in .1)
           ∙ ap (λ (l : List Row). spansOf out (at + i) ++ map (recordAt c q (rowsOf rows n)) l) (sym ahead) ∙ inv

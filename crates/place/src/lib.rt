@@ -1,7 +1,7 @@
 // Placing the spans of one pass: each measured row becomes a record, or the first refusal is answered.
 ghost use mathlib.Core.Path.{_≡_};
 ghost use mathlib.Core.List.{[], _++_};
-ghost use Prim.Native.Nat.{_+_, _≤_, _<_};
+ghost use Prim.Native.Nat.{_+_, _*_, _≤_, _<_};
 ghost use lib.ListN.{length};
 ghost use Rattle.layout.specs.Place.{trunc as truncOf, firstFault};
 ghost use Rattle.layout.specs.Read.{unit as unitOf};
@@ -45,7 +45,7 @@ fn goes_back(page: u16, line: u16, just: u16, e: Row) -> bool
 
 // Refusal 9, of the first row whose justification goes back.
 fn check_justification(rows: &[u16], n: usize) -> OptRefusal
-    requires { ⌜ (n ≤ 2048) × (length (now rows) ≡ 38912) ⌝ }
+    requires { ⌜ (n ≤ 2048) × (19 * n ≤ length (now rows)) ⌝ }
     ensures { λ r. ⌜ faultIs r ≡ backRows 0 0 0 (rowsOf (now (rows .entry)) n) ⌝ }
 {
     let mut page: u16 = 0;
@@ -140,7 +140,7 @@ fn record_of(rect: Rect, r: Row, x: u16, y: u16) -> Span
     }
 }
 
-// The span of a row, with the sums of its group and the lines of its page; x before y.
+// The span of a row, with the sums of its group and the lines of its page; the faults of x before those of y.
 fn place_span(c: Config, rect: Rect, r: Row, o: Sums, list: LineList) -> Placed
     requires { ⌜ (rect .left + rect .width ≤ 4096) × (rect .top + rect .height ≤ 4096) × (o .before + o .after ≤ 17592186044416) × (o .fault < 256) × (r .width ≤ o .after) × (list .count ≤ 256) × (list .fault < 256) ⌝ }
     ensures { λ p. ⌜ p ≡ placedBy (faultWith c rect r o (linesIn list) (faultOf (list .fault) (list .detail))) (recordWith c rect r o (linesIn list)) ⌝ }
@@ -182,7 +182,7 @@ fn place_span(c: Config, rect: Rect, r: Row, o: Sums, list: LineList) -> Placed
 
 // The lines of a page justification, made anew if it is another than that of the lines there.
 fn lines_for(list: LineList, just: u16, rows: &[u16], n: usize, want: u16) -> LineList
-    requires { ⌜ (n ≤ 2048) × (length (now rows) ≡ 38912) × (linesIn list ≡ linesFrom just [] (rowsOf (now rows) n)) × (faultOf (list .fault) (list .detail) ≡ fontFaultFrom just (rowsOf (now rows) n)) × (list .count ≤ 256) ⌝ }
+    requires { ⌜ (n ≤ 2048) × (19 * n ≤ length (now rows)) × (linesIn list ≡ linesFrom just [] (rowsOf (now rows) n)) × (faultOf (list .fault) (list .detail) ≡ fontFaultFrom just (rowsOf (now rows) n)) × (list .count ≤ 256) ⌝ }
     ensures { λ l. ⌜ (linesIn l ≡ linesFrom want [] (rowsOf (now (rows .entry)) n)) × (faultOf (l .fault) (l .detail) ≡ fontFaultFrom want (rowsOf (now (rows .entry)) n)) × (l .count ≤ 256) ⌝ }
 {
     if just == want {
@@ -200,10 +200,10 @@ fn place_rows(
     out: &mut [u16],
     at: usize,
 ) -> OptRefusal
-    requires { ⌜ (at + n ≤ 2048) × (length (now rows) ≡ 38912) × (length (now out) ≡ 30720) × (rect .left + rect .width ≤ 4096) × (rect .top + rect .height ≤ 4096) × smallFaults (now rows) n ⌝ }
+    requires { ⌜ (at + n ≤ 2048) × (19 * n ≤ length (now rows)) × (15 * (at + n) ≤ length (now out)) × (rect .left + rect .width ≤ 4096) × (rect .top + rect .height ≤ 4096) × smallFaults (now rows) n ⌝ }
     ensures { λ r. ⌜ (faultIs r ≡ firstFault (spanFaultAt c rect (rowsOf (now (rows .entry)) n)) (rowsOf (now (rows .entry)) n))
         × (r ≡ None → spansOf (now (out .exit)) (at + n) ≡ spansOf (now (out .entry)) at ++ rowsRecords c rect (rowsOf (now (rows .entry)) n))
-        × (length (now (out .exit)) ≡ 30720) ⌝ }
+        × (length (now (out .exit)) ≡ length (now (out .entry))) ⌝ }
 {
     let mut just: u16 = 2;
     let mut list = lines::line_list(rows, n, 2);
@@ -235,10 +235,10 @@ pub fn place_pass(
     out: &mut [u16],
     at: usize,
 ) -> OptRefusal
-    requires { ⌜ (at + n ≤ 2048) × (length (now rows) ≡ 38912) × (length (now out) ≡ 30720) × (rect .left + rect .width ≤ 4096) × (rect .top + rect .height ≤ 4096) × smallFaults (now rows) n ⌝ }
+    requires { ⌜ (at + n ≤ 2048) × (19 * n ≤ length (now rows)) × (15 * (at + n) ≤ length (now out)) × (rect .left + rect .width ≤ 4096) × (rect .top + rect .height ≤ 4096) × smallFaults (now rows) n ⌝ }
     ensures { λ r. ⌜ (faultIs r ≡ rowsFault c rect (rowsOf (now (rows .entry)) n))
         × (r ≡ None → spansOf (now (out .exit)) (at + n) ≡ spansOf (now (out .entry)) at ++ rowsRecords c rect (rowsOf (now (rows .entry)) n))
-        × (length (now (out .exit)) ≡ 30720) ⌝ }
+        × (length (now (out .exit)) ≡ length (now (out .entry))) ⌝ }
 {
     match check_justification(rows, n) {
         OptRefusal::Some(f) => OptRefusal::Some(f),

@@ -1,4 +1,4 @@
--- What a stored row is read as, and the rows beside it. Assumes nothing.
+-- What a stored row is read as, and the rows beside it.
 use Prim.Native.Nat.{ℕ, zero, suc, _+_, _-_, _*_, _/_, _%_, _≤_, _<_}
 use mathlib.Core.Path.{_≡_, refl, sym, _∙_, ap}
 use mathlib.Core.List.{List, [], _∷_, _++_}
@@ -67,6 +67,14 @@ module _ (k j : ℕ) (a b l : List ℕ) (e : j ≡ length a) (r : k + (j + lengt
   unfolding both
   before p h = store-below k j p b (storeAt k 0 a l) (omega arith) ∙ store-below k 0 p a l (omega arith)
 
+pub cells-length : {A : Type 0} (f : ℕ → A) (i k : ℕ) → length (cells f i k) ≡ k
+cells-length f i zero = refl
+cells-length f i (suc k) = ap suc (cells-length f (suc i) k)
+
+pub spans-length : (l : List ℕ) (n : ℕ) → length (spansOf l n) ≡ n
+unfolding spansOf
+spans-length l n = cells-length (spanAt l) 0 n
+
 -- ---- rows
 
 pub row-is : (l : List ℕ) (i w : ℕ) → w ≡ getD l (19 * i + 17) 0 + 65536 * getD l (19 * i + 18) 0 → rowWith l i w ≡ rowAt l i
@@ -76,22 +84,22 @@ row-is l i w e = ap (rowWith l i) e
 pub byte-small : (n : ℕ) → n % 256 < 256
 byte-small n = mod-lt n (omega arith)
 
-pub row-stored : (l a b : List ℕ) (i : ℕ) (r : Row) → a ≡ storeAt (19 * i) 0 (entryHead r) l → b ≡ storeAt (19 * i) 9 (entryTail r) a → length l ≡ 38912 → (b ≡ putRow l i r) × (length b ≡ 38912)
+pub row-stored : (l a b : List ℕ) (i : ℕ) (r : Row) → a ≡ storeAt (19 * i) 0 (entryHead r) l → b ≡ storeAt (19 * i) 9 (entryTail r) a → (b ≡ putRow l i r) × (length b ≡ length l)
 unfolding putRow
-row-stored l a b i r e f h = (
+row-stored l a b i r e f = (
   f ∙ ap (storeAt (19 * i) 9 (entryTail r)) e,
-  ap (λ (x : List ℕ). length x) f ∙ store-length (19 * i) 9 (entryTail r) a ∙ ap (λ (x : List ℕ). length x) e ∙ store-length (19 * i) 0 (entryHead r) l ∙ h,
+  ap (λ (x : List ℕ). length x) f ∙ store-length (19 * i) 9 (entryTail r) a ∙ ap (λ (x : List ℕ). length x) e ∙ store-length (19 * i) 0 (entryHead r) l,
 )
 
-pub span-stored : (l a b : List ℕ) (i : ℕ) (s : Span) → a ≡ storeAt (15 * i) 0 (spanHead s) l → b ≡ storeAt (15 * i) 8 (spanTail s) a → length l ≡ 30720 → (b ≡ putSpan l i s) × (length b ≡ 30720)
+pub span-stored : (l a b : List ℕ) (i : ℕ) (s : Span) → a ≡ storeAt (15 * i) 0 (spanHead s) l → b ≡ storeAt (15 * i) 8 (spanTail s) a → (b ≡ putSpan l i s) × (length b ≡ length l)
 unfolding putSpan
-span-stored l a b i s e f h = (
+span-stored l a b i s e f = (
   f ∙ ap (storeAt (15 * i) 8 (spanTail s)) e,
-  ap (λ (x : List ℕ). length x) f ∙ store-length (15 * i) 8 (spanTail s) a ∙ ap (λ (x : List ℕ). length x) e ∙ store-length (15 * i) 0 (spanHead s) l ∙ h,
+  ap (λ (x : List ℕ). length x) f ∙ store-length (15 * i) 8 (spanTail s) a ∙ ap (λ (x : List ℕ). length x) e ∙ store-length (15 * i) 0 (spanHead s) l,
 )
 
 -- a row that was stored, and those before it
-module _ (l : List ℕ) (i : ℕ) (r : Row) (h : i < 2048) (z : length l ≡ 38912) where
+module _ (l : List ℕ) (i : ℕ) (r : Row) (h : 19 * i + 19 ≤ length l) where
   room : 19 * i + (9 + length (entryTail r)) ≤ length l
   room = omega arith
 
@@ -167,7 +175,7 @@ module _ (l : List ℕ) (i : ℕ) (r : Row) (h : i < 2048) (z : length l ≡ 389
       ∙ ap (λ (x : Row). cells (rowAt (putRow l i r)) 0 i ++ (x ∷ [])) (ap (rowAt (putRow l i r)) (let e : 0 + i ≡ i = omega arith in e) ∙ row-same k)
       ∙ ap (λ (x : List Row). x ++ (r ∷ [])) (cells-same (rowAt (putRow l i r)) (rowAt l) 0 i (λ j q. row-other j (omega arith)))
 
-module _ (l : List ℕ) (i : ℕ) (s : Span) (h : i < 2048) (z : length l ≡ 30720) where
+module _ (l : List ℕ) (i : ℕ) (s : Span) (h : 15 * i + 15 ≤ length l) where
   span-room : 15 * i + (8 + length (spanTail s)) ≤ length l
   span-room = omega arith
 

@@ -5,9 +5,9 @@ ghost use lib.ListN.{length};
 ghost use Rattle.rows.specs.Rows.{storeAt, entryHead, entryTail, rowAt, putRow, spanHead, spanTail, spanAt, putSpan};
 use layout::Span;
 
-// An entry of a pass with its measures: what its record tells, its place among the others, its [sc] value or its font's spacing (fixed is 1 if
-// [sc] holds), the line spacing of the [nl] before it (led is 1 if there is one), its font's height and line spacing, number and detail of
-// refusal 10, 11 or 12 or else 0, and its width.
+// An entry of a pass with its measures. kind to code: as in its record. just_page to span: of the state it was read in.
+// spacing: its [sc] value where fixed is 1, else its font's. lead: the line spacing of the [nl] before it, where led is 1.
+// height, font_spacing: its font's height and line spacing. fault, detail: refusal 10, 11 or 12, or 0.
 pub struct Row {
     pub kind: u16,
     pub start: u16,
@@ -46,9 +46,9 @@ fn whole(low: u16, high: u16) -> u32
     low as u32 + 65536 * (high as u32)
 }
 
-// The row at a place. A line number is below 256.
+// The row at a place; its line number is cut to 8 bits, whatever the slice holds.
 pub fn row_at(rows: &[u16], i: usize) -> Row
-    requires { ⌜ (i < 2048) × (length (now rows) ≡ 38912) ⌝ }
+    requires { ⌜ (i < 2048) × (19 * i + 19 ≤ length (now rows)) ⌝ }
     ensures { λ r. ⌜ (r ≡ rowAt (now (rows .entry)) i) × (r .line < 256) ⌝ }
 {
     let k = 19 * i;
@@ -76,7 +76,7 @@ pub fn row_at(rows: &[u16], i: usize) -> Row
 }
 
 fn put_head(rows: &mut [u16], k: usize, r: Row)
-    requires { ⌜ (k + 9 ≤ length (now rows)) × (length (now rows) ≡ 38912) ⌝ }
+    requires { ⌜ (k < 65536) × (k + 9 ≤ length (now rows)) ⌝ }
     ensures { λ _. ⌜ now (rows .exit) ≡ storeAt k 0 (entryHead r) (now (rows .entry)) ⌝ }
 {
     rows[k] = r.kind;
@@ -91,7 +91,7 @@ fn put_head(rows: &mut [u16], k: usize, r: Row)
 }
 
 fn put_tail(rows: &mut [u16], k: usize, r: Row)
-    requires { ⌜ (k + 19 ≤ length (now rows)) × (length (now rows) ≡ 38912) ⌝ }
+    requires { ⌜ (k < 65536) × (k + 19 ≤ length (now rows)) ⌝ }
     ensures { λ _. ⌜ now (rows .exit) ≡ storeAt k 9 (entryTail r) (now (rows .entry)) ⌝ }
 {
     rows[k + 9] = r.fixed;
@@ -111,8 +111,8 @@ fn put_tail(rows: &mut [u16], k: usize, r: Row)
 
 // A row is stored at a place.
 pub fn put_row(rows: &mut [u16], i: usize, r: Row)
-    requires { ⌜ (i < 2048) × (length (now rows) ≡ 38912) ⌝ }
-    ensures { λ _. ⌜ (now (rows .exit) ≡ putRow (now (rows .entry)) i r) × (length (now (rows .exit)) ≡ 38912) ⌝ }
+    requires { ⌜ (i < 2048) × (19 * i + 19 ≤ length (now rows)) ⌝ }
+    ensures { λ _. ⌜ (now (rows .exit) ≡ putRow (now (rows .entry)) i r) × (length (now (rows .exit)) ≡ length (now (rows .entry))) ⌝ }
 {
     let k = 19 * i;
     put_head(rows, k, r);
@@ -121,7 +121,7 @@ pub fn put_row(rows: &mut [u16], i: usize, r: Row)
 
 // The span at a place.
 pub fn span_at(out: &[u16], i: usize) -> Span
-    requires { ⌜ (i < 2048) × (length (now out) ≡ 30720) ⌝ }
+    requires { ⌜ (i < 2048) × (15 * i + 15 ≤ length (now out)) ⌝ }
     ensures { λ r. ⌜ r ≡ spanAt (now (out .entry)) i ⌝ }
 {
     let k = 15 * i;
@@ -144,8 +144,9 @@ pub fn span_at(out: &[u16], i: usize) -> Span
     }
 }
 
+// The first eight numbers of a span.
 fn put_place(out: &mut [u16], k: usize, s: Span)
-    requires { ⌜ (k + 8 ≤ length (now out)) × (length (now out) ≡ 30720) ⌝ }
+    requires { ⌜ (k < 65536) × (k + 8 ≤ length (now out)) ⌝ }
     ensures { λ _. ⌜ now (out .exit) ≡ storeAt k 0 (spanHead s) (now (out .entry)) ⌝ }
 {
     out[k] = s.kind;
@@ -158,8 +159,9 @@ fn put_place(out: &mut [u16], k: usize, s: Span)
     out[k + 7] = s.height;
 }
 
+// The other seven.
 fn put_rect(out: &mut [u16], k: usize, s: Span)
-    requires { ⌜ (k + 15 ≤ length (now out)) × (length (now out) ≡ 30720) ⌝ }
+    requires { ⌜ (k < 65536) × (k + 15 ≤ length (now out)) ⌝ }
     ensures { λ _. ⌜ now (out .exit) ≡ storeAt k 8 (spanTail s) (now (out .entry)) ⌝ }
 {
     out[k + 8] = s.font;
@@ -173,8 +175,8 @@ fn put_rect(out: &mut [u16], k: usize, s: Span)
 
 // A span is stored at a place.
 pub fn put_span(out: &mut [u16], i: usize, s: Span)
-    requires { ⌜ (i < 2048) × (length (now out) ≡ 30720) ⌝ }
-    ensures { λ _. ⌜ (now (out .exit) ≡ putSpan (now (out .entry)) i s) × (length (now (out .exit)) ≡ 30720) ⌝ }
+    requires { ⌜ (i < 2048) × (15 * i + 15 ≤ length (now out)) ⌝ }
+    ensures { λ _. ⌜ (now (out .exit) ≡ putSpan (now (out .entry)) i s) × (length (now (out .exit)) ≡ length (now (out .entry))) ⌝ }
 {
     let k = 15 * i;
     put_place(out, k, s);

@@ -1,4 +1,2 @@
-pub mod Elt
-pub mod Items
 pub mod Locals
 pub mod Over

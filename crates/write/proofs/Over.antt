@@ -1,24 +1,30 @@
--- Laws of `overwrite`: its length, and one element more. They hold of any type of elements.
-use mathlib.Core.Path.{_≡_, sym, _∙_, ap}
+-- Laws of `overwrite`: none, its length, and one span more.
+use mathlib.Core.Path.{_≡_, refl, sym, _∙_, ap}
 use Prim.Native.Nat.{ℕ, suc, _+_, _<_, _≤_}
 use native.Mathlib.Omega.{arith}
-use mathlib.Core.List.{List, _++_}
-use lib.ListN.{length, take, drop, set, getD, length-append, length-drop}
-use lib.Seq.{length-take-le, drop-cons, take-suc, append-snoc, set-at}
+use mathlib.Core.List.{List, [], _∷_, _++_}
+use lib.ListN.{length, drop, set, getD, length-append, length-drop}
+use lib.Seq.{drop-cons, append-snoc, set-at}
+use Rattle.layout.specs.declared.Span.{Span}
+use Rattle.rows.specs.Rows.{cells, spanAt, spansOf}
+use Rattle.rows.proofs.Laws.{cells-last, spans-length}
 use Rattle.write.specs.Overwrite.{overwrite}
 
-module _ {A : Type 0} (xs ys : List A) (n : ℕ) (hx : n ≤ length xs) (hy : n ≤ length ys) where
-  pub length-over : length (overwrite n xs ys) ≡ length ys
-  length-over = omega (arith, length-append (take n xs) (drop n ys), length-take-le n xs hx, length-drop n ys)
+module _ (l : List ℕ) where
+  spans-last : (n : ℕ) → spansOf l (suc n) ≡ spansOf l n ++ (spanAt l n ∷ [])
+  unfolding spansOf
+  spans-last n = cells-last (spanAt l) 0 n ∙ ap (λ (k : ℕ). cells (spanAt l) 0 n ++ (spanAt l k ∷ [])) (let e : 0 + n ≡ n = omega arith in e)
 
-pub over-suc : {A : Type 0} (xs ys : List A) (i : ℕ) (d : A) → i < length xs → i < length ys → set (overwrite i xs ys) i (getD xs i d) ≡ overwrite (suc i) xs ys
-over-suc xs ys i d hx hy =
-    ap (λ l. set (take i xs ++ l) i (getD xs i d)) (drop-cons ys i d hy)
-    ∙ set-at (take i xs) (getD ys i d) (drop (suc i) ys) (getD xs i d) i (length-take-le i xs (omega arith))
-    ∙ sym (append-snoc (take i xs) (getD xs i d) (drop (suc i) ys))
-    ∙ ap (λ l. l ++ drop (suc i) ys) (sym (take-suc xs i d hx))
+  pub over-none : (ys : List Span) → ys ≡ overwrite l 0 ys
+  unfolding spansOf
+  over-none ys = refl
 
--- overwritten is what was taken, and after it what was there, as the definitions of a listing have it
-module _ {A : Type 0} (xs ys : List A) (n : ℕ) where
-  pub overwrite-after : (w : List A) → n ≤ length xs → take n xs ≡ w → overwrite n xs ys ≡ w ++ drop (length w) ys
-  overwrite-after w hx e = ap (λ (l : List A). l ++ drop n ys) e ∙ ap (λ (k : ℕ). w ++ drop k ys) (sym (length-take-le n xs hx) ∙ ap length e)
+  pub over-length : (n : ℕ) (ys : List Span) → n ≤ length ys → length (overwrite l n ys) ≡ length ys
+  over-length n ys h = omega (arith, length-append (spansOf l n) (drop n ys), spans-length l n, length-drop n ys)
+
+  pub over-one : (n : ℕ) (ys : List Span) → n < length ys → set (overwrite l n ys) n (spanAt l n) ≡ overwrite l (suc n) ys
+  over-one n ys h =
+      ap (λ (z : List Span). set (spansOf l n ++ z) n (spanAt l n)) (drop-cons ys n (spanAt l n) h)
+      ∙ set-at (spansOf l n) (getD ys n (spanAt l n)) (drop (suc n) ys) (spanAt l n) n (spans-length l n)
+      ∙ sym (append-snoc (spansOf l n) (spanAt l n) (drop (suc n) ys))
+      ∙ ap (λ (z : List Span). z ++ drop (suc n) ys) (sym (spans-last n))

@@ -17,4 +17,4 @@ gauge-in-spec =
     (λ c κs. search needs)  -- wide16-requires-2
     (λ c κs. search needs)  -- wide16-requires-3
     (λ c κs. search needs)  -- width-of-requires
-    (λ c. gauge-is (c .before .before .before .before .before .before .before .before .before .before .before .args .file .now) (c .before .before .before .before .before .before .before .before .before .before .before .args .msg .now) (c .before .before .before .before .before .before .before .before .before .before .before .args .e) (c .before .before .before .before .before .before .before .before .before .before .before .args .f) _ _ _ _ _ _ _ (c .before .before .before .before .before .before .given .ensures ∙ ap (λ (d : ℕ). given (c .before .before .before .before .before .before .before .before .before .before .before .args .e .state .«char_spacing») d) (c .before .before .before .before .before .before .before .wide16 .ensures .0)) (c .before .before .before .before .before .span-width .ensures .0) (c .before .before .before .before .version-number .ensures) (c .before .before .before .fault-by .ensures) (c .width-of .ensures) (c .before .before .wide162 .ensures .0) (c .before .wide163 .ensures .0)))  -- returns
+    (λ c. gauge-is (c .before .before .before .before .before .before .before .before .before .before .before .before .args .file .now) (c .before .before .before .before .before .before .before .before .before .before .before .before .args .msg .now) (c .before .before .before .before .before .before .before .before .before .before .before .before .args .e) (c .before .before .before .before .before .before .before .before .before .before .before .before .args .f) _ _ _ _ _ _ _ (c .before .before .before .before .before .before .given .ensures ∙ ap (λ (d : ℕ). given (c .before .before .before .before .before .before .before .before .before .before .before .before .args .e .state .«char_spacing») d) (c .before .before .before .before .before .before .before .wide16 .ensures .0)) (c .before .before .before .before .before .span-width .ensures .0) (c .before .before .before .before .version-number .ensures) (c .before .before .before .fault-by .ensures) (c .width-of .ensures) (c .before .before .wide162 .ensures .0) (c .before .wide163 .ensures .0)))  -- returns

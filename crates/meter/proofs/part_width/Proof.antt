@@ -9,8 +9,8 @@ part-width-spec =
     (λ c. search needs)  -- cast-start
     (λ c. search needs)  -- cast-end
     (λ c. search needs)  -- add-end
-    (λ c. search needs)  -- sub-short-width
-    (λ c. search needs)  -- part-short-width-start
-    (λ c. search needs)  -- part-short-width-end
-    (λ c κs. search needs)  -- short-width-requires
-    (λ c. part-text _ _ _ (c .before .before .before .before .before .before .args .e) _ (c .short-width .ensures) (c .before .before .before .before .before .before .pre .2)))  -- returns
+    (λ c. search needs)  -- sub-width-by
+    (λ c. search needs)  -- part-width-by-start
+    (λ c. search needs)  -- part-width-by-end
+    (λ c κs. search needs)  -- width-by-requires
+    (λ c. part-text _ _ _ (c .before .before .before .before .before .before .before .args .e) _ (c .width-by .ensures) (c .before .before .before .before .before .before .before .pre .1 .2)))  -- returns

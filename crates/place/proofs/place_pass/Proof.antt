@@ -1,3 +1,4 @@
+use mathlib.Core.Path.{refl}
 use borrow.Author.Needs.{needs}
 use Rattle.place.proofs.Laws.{pass-back, pass-on, not-none}
 use Rattle.place.proofs.place_pass.Statement.{statement}
@@ -10,7 +11,7 @@ place-pass-spec =
     (λ c. search needs)  -- enum-known-f
     (λ c. search needs)  -- enum-told
     (λ c κs. search needs)  -- place-rows-requires
-    (λ c. let s = c .before .before .before .before .before .before in (pass-back (s .args .c) (s .args .rect) _ _ (c .before .before .before .check-justification .ensures) _ (c .before .f .given .1), not-none _, s .pre .2))  -- returns
+    (λ c. let s = c .before .before .before .before .before .before in (pass-back (s .args .c) (s .args .rect) _ _ (c .before .before .before .check-justification .ensures) _ (c .before .f .given .1), not-none _, refl))  -- returns
     (λ c. search needs)  -- same-length
     (λ c.
     let s = c .before .before .before .before .before .before .before .before .before in

@@ -10,4 +10,4 @@ put-row-spec =
     (λ c κs. search needs)  -- put-head-requires
     (λ c κs. search needs)  -- put-tail-requires
     (λ c. search needs)  -- same-length
-    (λ c. row-stored (c .before .before .before .before .before .before .before .before .before .args .rows .now) _ _ (c .before .before .before .before .before .before .before .before .before .args .i) (c .before .before .before .before .before .before .before .before .before .args .r) (c .before .before .before .before .before .before .put-head .ensures) (c .before .before .put-tail .ensures) (c .before .before .before .before .before .before .before .before .before .pre .1)))  -- returns
+    (λ c. row-stored (c .before .before .before .before .before .before .before .before .before .args .rows .now) _ _ (c .before .before .before .before .before .before .before .before .before .args .i) (c .before .before .before .before .before .before .before .before .before .args .r) (c .before .before .before .before .before .before .put-head .ensures) (c .before .before .put-tail .ensures)))  -- returns

@@ -10,4 +10,4 @@ put-span-spec =
     (λ c κs. search needs)  -- put-place-requires
     (λ c κs. search needs)  -- put-rect-requires
     (λ c. search needs)  -- same-length
-    (λ c. span-stored (c .before .before .before .before .before .before .before .before .before .args .out .now) _ _ (c .before .before .before .before .before .before .before .before .before .args .i) (c .before .before .before .before .before .before .before .before .before .args .s) (c .before .before .before .before .before .before .put-place .ensures) (c .before .before .put-rect .ensures) (c .before .before .before .before .before .before .before .before .before .pre .1)))  -- returns
+    (λ c. span-stored (c .before .before .before .before .before .before .before .before .before .args .out .now) _ _ (c .before .before .before .before .before .before .before .before .before .args .i) (c .before .before .before .before .before .before .before .before .before .args .s) (c .before .before .before .before .before .before .put-place .ensures) (c .before .before .put-rect .ensures)))  -- returns
