@@ -1,4 +1,4 @@
--- The sums of the loop are those of the definition. Assumes nothing.
+-- The sums of the loop are those of the definition.
 use Prim.Native.Nat.{ℕ, _+_, _-_, _/_, _≤_, _<_}
 use native.Mathlib.Omega.{arith}
 use mathlib.Core.Path.{_≡_, refl, sym, _∙_, ap}

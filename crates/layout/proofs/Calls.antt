@@ -55,7 +55,7 @@ no-refusal (on d rs) l h n = n
 no-refusal (off d) l h n = n
 no-refusal (refused x) l h n = absurd h
 
--- f: the results from number i on; N of them show, then comes the end
+-- l is N pages and no refusal; k counts them and the c before
 record Ended (c N k : ℕ) (l : List Page) : Type 0 where
   none-refused : NoRefusal l
   all : N ≡ length l

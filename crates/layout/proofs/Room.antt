@@ -1,4 +1,4 @@
--- What a call writes fits the lent slice: a page has at most 1,400 records. A refusal's place lies within the message.
+-- What a call writes fits the lent slice: a page has at most 1,400 records. A refusal changes none.
 use Prim.Native.Nat.{ℕ, zero, suc, _+_, _≤_}
 use native.Mathlib.Omega.{arith}
 use mathlib.Core.Path.{_≡_, refl, ap}

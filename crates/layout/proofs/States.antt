@@ -1,4 +1,4 @@
--- The next state after [jp]. Assumes nothing.
+-- The next state after [jp].
 use Prim.Native.Nat.{ℕ}
 use mathlib.Core.Path.{_≡_, refl}
 use borrow.Author.Tests.{eq-eqb, ne-eqb}

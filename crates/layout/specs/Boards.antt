@@ -132,10 +132,10 @@ pub record Boards : Type 0 where
   -- 12 is met before 13, and a fault of the page's scan before any placing
   pub missing-first : board boardP "[tr1,1,4,7]AC" 1 ≡ refused 12 11 2 67 ∷ []
   pub scan-first : board boardP "C[tr1,1,0,0][xx]" 1 ≡ refused 5 12 4 0 ∷ []
-  -- 2,048 bytes are listed, or too wide; one more is refused
+  -- 2,048 bytes are read, and are too wide here; one more is refused
   pub longest : calls boardP (times 2048 (65 ∷ [])) 1 0 ≡ refused 13 0 2048 0 ∷ []
   pub too-long : calls boardP (times 2049 (65 ∷ [])) 1 0 ≡ refused 2 0 0 0 ∷ []
-  -- a sign file that is refused comes before all, a message of over 2,048 bytes before its slice
+  -- 1, an empty sign file; 4, a slice of 1,399 records
   pub no-sign : calls [] (ascii "A") 1 0 ≡ refused 1 0 0 0 ∷ []
   pub short-slice : result boardP (ascii "A") 0 1399 ≡ refused 4 0 0 0
 

@@ -1,4 +1,4 @@
--- Demand 3: what holds of a whole listing that no refusal ends. Document 01, "What demand 3 compares".
+-- Demand 3 (quoted in docs/DEMANDS.md), with document 01, "What demand 3 compares": what holds of a whole listing that no refusal ends.
 use Prim.Native.Nat.{ℕ, zero, suc, _+_, _≤_, _<_, _%_}
 use mathlib.Core.Path.{_≡_}
 use mathlib.Core.Logic.{_⊎_}

@@ -172,7 +172,8 @@ module _ (s : Board) (r : Rect) (es : List Entry) where
   unfoldable pub baseOf : Entry → ℕ
   baseOf e = baseline (e .state .«just_page») (s .config .«char_height») r (aboveOf e) (belowOf e)
 
-  -- "A record holds kind, start and length in message bytes, character code, x, y from 0, width, height, font, line, span number, rectangle"
+  -- "A record holds kind .., start and length in message bytes, character code .., x, y from 0, width, height, font, line, span number,
+  -- rectangle .."
   unfoldable pub recordOf : Entry → Span
   recordOf e =
       record {

@@ -36,7 +36,7 @@ refusalAt it n = refusal n (it .start) (it .len) 0
 abbrev pub tagged : ℕ → Value → Mark → Mark
 tagged tags v m = pick (hasTag tags (tagOf v)) m (Wrong 5)
 
--- text needs none
+-- of each value; a text has no tag and needs no bit
 abbrev pub markOf : ℕ → Value → Mark
 markOf tags (ColorBackground c) = tagged tags (ColorBackground c) Plain
 markOf tags (ColorForeground c) = tagged tags (ColorForeground c) Plain

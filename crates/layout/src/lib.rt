@@ -1,4 +1,4 @@
-// The records and answers of a listing, as its definitions have them.
+// What the code of a listing and its definitions share.
 ghost use mathlib.Core.Path.{_≡_};
 ghost use Prim.Native.Nat.{_<_};
 ghost use Rattle.layout.specs.Types.{given as givenOf};
@@ -45,8 +45,8 @@ pub enum Mark {
     Wrong(u8),
 }
 
-// What an item of a pass does: a refusal; the next state and whether the line is still blank; a span with them; [tr], which ends the pass;
-// [np].
+// What an item of a pass does: a refusal; the next state and whether the line is still blank; a span with them;
+// [tr], which ends the pass; [np].
 pub enum Step {
     Refuse(Refusal),
     Go(RenderState, bool),

@@ -1,4 +1,4 @@
--- The lines and the first font fault of measured entries are those of the layout. Assumes nothing.
+-- The lines and the first font fault of measured entries are those of the layout.
 use Prim.Native.Nat.{ℕ}
 use mathlib.Core.Path.{_≡_, refl, _∙_, ap}
 use mathlib.Core.Bool.{Bool, true, false}

@@ -1,4 +1,4 @@
--- The arrays after a row's stores hold the lines that `addLine` gives, and the fold over the rows. Assumes nothing.
+-- The arrays after a row's stores hold the lines that `addLine` gives, and the fold over the rows.
 use Prim.Native.Nat.{ℕ, zero, suc, _+_, _-_, _≤_, _<_, max}
 use mathlib.Core.Path.{_≡_, refl, sym, _∙_, ap}
 use mathlib.Core.Bool.{Bool, true, false}

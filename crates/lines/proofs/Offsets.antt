@@ -1,4 +1,4 @@
--- What stands above and below a line, summed line by line. Assumes nothing.
+-- What stands above and below a line, summed line by line.
 use Prim.Native.Nat.{ℕ, zero, suc, _+_, _-_, _/_, _≤_, _<_}
 use mathlib.Core.Path.{_≡_, refl, sym, _∙_, ap}
 use mathlib.Core.Bool.{Bool, true, false, not}

@@ -1,4 +1,4 @@
--- The scan's ways on and out. Assumes nothing.
+-- The scan's ways on and out.
 use Prim.Native.Nat.{ℕ, _+_, _-_, _≤_, _<_}
 use mathlib.Core.Path.{_≡_, refl, sym, _∙_, ap}
 use mathlib.Core.Bool.{Bool, true, false}

@@ -137,7 +137,7 @@ pub record Sound (c : Config) (all : ℕ) (p : Pages) : Type 0 where
   pub within : p .at ≤ all
   pub inside : Inside c (p .«render_state» .rect)
 
--- how many answers at most are left where no [np] follows, and 1 more for an off page before a page
+-- at most so many answers come from here to the next [np]: an off page that is due, an on page, and its off page
 abbrev pub weight : PageState → ℕ
 weight (OnState b) = 2
 weight (OffState true) = 3

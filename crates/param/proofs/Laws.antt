@@ -1,4 +1,4 @@
--- An answer taken apart by `let else`: the two ways on. Assumes nothing.
+-- An answer taken apart by `let else`: the two ways on.
 use Prim.Native.Nat.{ℕ, pred, _+_, _*_, _^_, _≤_, _<_}
 use mathlib.Core.Path.{_≡_, refl, sym, _∙_, ap}
 use mathlib.Core.List.{List}

@@ -1,4 +1,4 @@
--- A moving text taken apart by `let else`. Assumes nothing.
+-- A moving text taken apart by `let else`.
 use Prim.Native.Nat.{ℕ}
 use mathlib.Core.Path.{_≡_}
 use Rattle.value.specs.declared.Movement.{Movement}

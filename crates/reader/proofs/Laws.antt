@@ -1,4 +1,4 @@
--- The reader goes through the file's records. Assumes nothing.
+-- The reader goes through the file's records.
 use Prim.Native.Nat.{ℕ, _-_, _<_}
 use mathlib.Core.Path.{_≡_, refl, sym, _∙_, ap}
 use mathlib.Core.List.{List, _∷_}

@@ -1,4 +1,4 @@
--- The slice that `slice_end` cut. Assumes nothing.
+-- The slice that `slice_end` cut.
 use Prim.Native.Nat.{ℕ, _+_, _-_, _≤_, _<_}
 use mathlib.Core.Path.{_≡_}
 use mathlib.Core.List.{List}

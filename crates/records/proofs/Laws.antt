@@ -1,4 +1,4 @@
--- The ways out of the readers of records, and how a record that was read cuts the file. Assumes nothing.
+-- The ways out of the readers of records, and how a record that was read cuts the file.
 use Prim.Native.Nat.{ℕ, zero, suc, _+_, _-_, _*_, _/_, _^_, _≤_, _<_}
 use mathlib.Core.Path.{_≡_, refl, sym, _∙_, ap}
 use mathlib.Core.List.{List, [], _∷_}

@@ -5,7 +5,7 @@ ghost use lib.ListN.{length};
 ghost use Rattle.records.specs.Record.{littleAt, headAt};
 ghost use Rattle.records.specs.Config.{configOf, sizeOk, justOk, tagsOk, configOk, firstOf};
 
-// The tags that a sign may support: fo, hc, jl, jp, nl, np, pt, sc, tr.
+// The tags that a sign may support: fo, hc, jl, jp, nl, np, pt, sc and tr, bits 3, 5, 6, 7, 10 to 13 and 27.
 const MASK: u32 = 134233320;
 
 // A record's kind, where its body starts, and where it ends; or a record that is cut short.

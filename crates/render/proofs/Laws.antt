@@ -1,4 +1,4 @@
--- The steps' ways out, as the code has them. Assumes nothing.
+-- The steps' ways out, as the code has them.
 use Prim.Native.Nat.{ℕ, zero, suc, _+_, _-_, _%_, _≤_, _<_}
 use mathlib.Core.Path.{_≡_, refl, sym, _∙_, ap}
 use mathlib.Core.Bool.{Bool, true, false, _&&_}

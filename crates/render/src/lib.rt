@@ -255,7 +255,7 @@ fn end_spacing(st: RenderState, blank: bool) -> Step
     Step::Go(st.with_char_spacing(OptNum::None), blank)
 }
 
-// What the value of an item at a place does in a state. Other tags than these do nothing here: no sign file supports them.
+// What the value of an item at a place does in a state. [pt], which the scan took, and the tags that no sign file supports do nothing.
 pub fn step(c: Config, st: RenderState, blank: bool, p: Place, v: Value) -> Step
     requires { ⌜ (c .«line_just» ≤ 4) × (c .«page_just» ≤ 4) ⌝ }
     ensures { λ r. ⌜ r ≡ valueStep c st blank (itemAt p) v ⌝ }

@@ -5,8 +5,7 @@ use vectors::Window;
 ghost use lib.ListN.{length};
 ghost use Rattle.vectors.specs.Text.{Within};
 
-// Reads more of the input behind what a buffer holds, which goes to its front.
-// The end is where it was, from the front, where nothing came or the buffer is full.
+// Moves what a buffer holds to its front and reads more behind it; where nothing comes or the buffer is full, it only moves.
 pub fn fill(buf: &mut [u8], w: Window) -> Window
     requires { ⌜ Within w (length (now buf)) ⌝ }
     ensures { λ r. ⌜ Within r (length (now (buf .exit))) ⌝ }

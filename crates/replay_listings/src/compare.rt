@@ -11,9 +11,9 @@ ghost use lib.ListN.{length};
 ghost use Rattle.replay_listings.specs.Good.{Held};
 
 // The sign file that came last, and the case whose answers are read.
-// len, text: how many bytes the file and the message have. seen: a file came. answer, row: the next answer of the case, and its next record.
-// ending: the number of the refusal that the last answer was, else 0. other: the first line that does not agree, 0 where all do.
-// good: the words are of the format. cases, agreed: how many came, and agreed. endings: how many of these ended so, by number.
+// len, text: the bytes of the file and of the message. seen: a file came. answer, row: the next answer, and its next record.
+// ending: the last answer's refusal number, or 0. other: the first line that does not agree, or 0. good: the words are of the format.
+// cases, agreed: how many came, and agreed. endings: how many of these ended so, by number.
 pub struct Check {
     pub len: usize,
     pub text: usize,
@@ -83,7 +83,7 @@ fn is_answer(line: &[u8], a: Answer) -> bool {
     }
 }
 
-// Whether a line starts with a record's eight numbers of the span and its place.
+// Whether a line starts with a record's first eight numbers.
 fn is_placed(line: &[u8], s: Span) -> bool {
     has(line, 0, s.kind)
         && has(line, 1, s.start)

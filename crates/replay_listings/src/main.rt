@@ -131,7 +131,7 @@ fn run_all(buf: &mut [u8], file: &mut [u8], msg: &mut [u8], out: &mut [u16]) -> 
     run
 }
 
-// `refused 5 75`, or `end 198` for 0.
+// `refused NUMBER COUNT`, or `end COUNT` for 0.
 fn print_ending(number: u64, count: u32) {
     if number == 0 {
         io::write_all(STDOUT_FILENO, b"end ");

@@ -1,4 +1,4 @@
--- Every file that is accepted keeps the rules. Assumes nothing.
+-- Every file that is accepted keeps the rules.
 use Prim.Native.Nat.{ℕ, zero, suc, _+_, _-_, _≤_, _<_}
 use mathlib.Core.Path.{_≡_, refl, ap}
 use mathlib.Core.List.{List, [], _∷_, map}

@@ -1,4 +1,4 @@
--- What a caller of `read_sign` learns from its answer. Assumes nothing.
+-- What a caller of `read_sign` learns from its answer.
 use Prim.Native.Nat.{ℕ, _-_}
 use mathlib.Core.Path.{_≡_, refl, sym, _∙_, ap}
 use mathlib.Core.List.{List, _++_, map}

@@ -1,4 +1,4 @@
--- The ways on and out of the loop over the fonts. Assumes nothing.
+-- The ways on and out of the loop over the fonts.
 use Prim.Native.Nat.{ℕ, zero, suc, _+_, _-_, _≤_, _<_}
 use mathlib.Core.Path.{_≡_, refl, sym, _∙_, ap}
 use mathlib.Core.List.{List, [], _∷_, _++_, map, append-assoc, append-nil}

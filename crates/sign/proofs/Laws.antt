@@ -1,4 +1,4 @@
--- The ways on and out of the reader's functions, as the code has them. Assumes nothing.
+-- The ways on and out of the reader's functions, as the code has them.
 use Prim.Native.Nat.{ℕ, zero, suc, _+_, _-_, _*_, _/_, _≤_, _<_}
 use mathlib.Core.Path.{_≡_, refl, sym, _∙_}
 use mathlib.Core.List.{List, [], _∷_, _++_}

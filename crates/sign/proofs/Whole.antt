@@ -1,4 +1,4 @@
--- The ways out of the reader of a whole file. Assumes nothing.
+-- The ways out of the reader of a whole file.
 use Prim.Native.Nat.{ℕ, _≤_, _<_}
 use mathlib.Core.Path.{_≡_, refl, sym, _∙_}
 use mathlib.Core.List.{List, [], _∷_}

@@ -103,7 +103,7 @@ fn print_answer(a: Answer, out: &[u16]) -> bool
     }
 }
 
-// Prints answer after answer. A message has at most 4,098.
+// Prints answer after answer; a message has at most 1,026.
 fn print_all(file: &[u8], msg: &[u8], out: &mut [u16])
     requires { ⌜ length (now out) ≡ 30720 ⌝ }
 {

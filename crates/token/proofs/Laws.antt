@@ -1,4 +1,4 @@
--- The tokenizer's ways on and out, as the code has them, and the laws of slices for the layers above. Assumes nothing.
+-- The tokenizer's ways on and out, as the code has them, and the laws of slices for the layers above.
 use Prim.Native.Nat.{ℕ, zero, suc, _+_, _-_, _≤_, _<_}
 use mathlib.Core.Path.{_≡_, refl, sym, _∙_, ap}
 use mathlib.Core.List.{List, [], _∷_, _++_}

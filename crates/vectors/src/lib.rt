@@ -24,7 +24,7 @@ pub struct Window {
 }
 
 impl Window {
-    // After the line that ends at a place, which is kept, or not.
+    // Past the line that ends at a place; start stays where the line is kept.
     pub fn past(self, end: usize, keep: bool) -> Window
         requires { ⌜ (self .start ≤ end) × (end < self .end) ⌝ }
         ensures { λ r. ⌜ Within r (self .end) ⌝ }

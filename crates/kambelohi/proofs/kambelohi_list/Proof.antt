@@ -1,6 +1,5 @@
 -- `kambelohi_list` meets its contract: a walk of its MIR, by hand, with two calls and no loop. All that it knows of `list` and `list_answer` is that each meets its contract.
 -- The two shared slices are copied: one copy of each goes to `list`, and one is kept for the exit. The slice of records goes to `list` and is given up for good (`gave-slice`).
--- Assumes nothing.
 use mathlib.Core.Path.{_≡_, refl, _∙_, ap}
 use Prim.Native.Nat.{ℕ, _<_, _^_}
 use mathlib.Core.List.{[], _∷_, List}

@@ -1,5 +1,5 @@
 -- `first_record`: a walk of its code by hand. The reader that `new` returns is held in a local and passed to `next`; of both only their
--- contracts are used. In a local the lifetime of the reader's type is erased, and what it owns is the same. Assumes nothing.
+-- contracts are used. In a local the lifetime of the reader's type is erased, and what it owns is the same.
 use Prim.Native.Nat.{ℕ}
 use mathlib.Core.Path.{_≡_, refl, ap, _∙_}
 use mathlib.Core.List.{List, [], _∷_}

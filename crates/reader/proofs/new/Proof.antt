@@ -1,5 +1,5 @@
 -- `new`: a walk of its code by hand. A shared slice is Copy, so what it owns is had twice: once for the parameter at exit, and once
--- in the reader, with what is known of the number 0. Assumes nothing.
+-- in the reader, with what is known of the number 0.
 use Prim.Native.Nat.{ℕ}
 use mathlib.Core.Path.{refl}
 use mathlib.Core.List.{List, [], _∷_}

@@ -1,5 +1,5 @@
 -- `next`: a walk of its code by hand. The reader is taken apart, and `record_at` is called on the slice and the number; of `record_at`
--- only its contract is used. The reader is Copy: one copy stays for the exit, and the slice of the other goes to the call. Assumes nothing.
+-- only its contract is used. The reader is Copy: one copy stays for the exit, and the slice of the other goes to the call.
 use Prim.Native.Nat.{_<_, _^_}
 use mathlib.Core.Path.{_≡_, refl}
 use mathlib.Core.List.{[], _∷_}

@@ -1,6 +1,6 @@
 -- `skip`: a walk of its code by hand. The reader is taken apart, `past` is called on the slice and the number, and a reader is made of
 -- the slice and its answer; of `past` only its contract is used. The reader is Copy: the slice of one copy goes to the call, one stays
--- for the exit, and one, with the answer in the place of the number, is the result. Assumes nothing.
+-- for the exit, and one, with the answer in the place of the number, is the result.
 use Prim.Native.Nat.{ℕ, _<_, _^_}
 use mathlib.Core.Path.{_≡_, refl, ap}
 use mathlib.Core.List.{[], _∷_}
