@@ -1,7 +1,8 @@
 //! Sign files and messages of the benchmark.
 
-/// A sign file and a message
+/// A sign file and a message; inputs of a series double from one to the next
 pub struct Input {
+    pub series: &'static str,
     pub name: &'static str,
     pub sign: Vec<u8>,
     pub message: String,
@@ -72,7 +73,7 @@ fn wide() -> Vec<u8> {
     with_ids(s)
 }
 
-/// Some 1,300 spans in one pass: `A[[A[[..` with a [jl] before the 250th
+/// So many spans in one pass: `A[[A[[..`, with a [jl] after each 250
 fn spans(count: usize) -> String {
     let mut m = String::new();
     for i in 0..count / 2 {
@@ -97,25 +98,28 @@ fn dense() -> String {
 
 pub fn inputs() -> Vec<Input> {
     let three = "[pt30o0][jp3][jl3]CAR PARK A[nl]FULL[np]USE GATE 4[nl]AND FOLLOW[nl]THE SIGNS[np][fo1]EXIT LEFT";
-    let of = |name, sign: &Vec<u8>, message: String| Input {
+    let of = |series, name, sign: &Vec<u8>, message: String| Input {
+        series,
         name,
         sign: sign.clone(),
         message,
     };
     let (small, full, wide) = (small(), full(), wide());
     vec![
-        of("one line", &small, "CAR PARK FULL".into()),
-        of("three pages", &small, three.into()),
-        of("three pages, full sign file", &full, three.into()),
-        of("dense", &small, dense()),
-        of("1,000 letters", &wide, "A".repeat(1_000)),
-        of("2,000 letters", &wide, "A".repeat(2_000)),
-        of("300 spans in a pass", &wide, spans(300)),
-        of("600 spans in a pass", &wide, spans(600)),
-        of("1,200 spans in a pass", &wide, spans(1_200)),
-        of("64 pages", &small, "[np]".repeat(63)),
-        of("128 pages", &small, "[np]".repeat(127)),
-        of("512 pages", &small, "[np]".repeat(511)),
-        of("50 rectangles", &small, "[tr1,1,0,0]".repeat(49)),
+        of("", "one line", &small, "CAR PARK FULL".into()),
+        of("", "three pages", &small, three.into()),
+        of("", "three pages, full sign file", &full, three.into()),
+        of("", "dense", &small, dense()),
+        of("letters", "500 letters", &wide, "A".repeat(500)),
+        of("letters", "1,000 letters", &wide, "A".repeat(1_000)),
+        of("letters", "2,000 letters", &wide, "A".repeat(2_000)),
+        of("spans", "300 spans in a pass", &wide, spans(300)),
+        of("spans", "600 spans in a pass", &wide, spans(600)),
+        of("spans", "1,200 spans in a pass", &wide, spans(1_200)),
+        of("pages", "64 pages", &small, "[np]".repeat(63)),
+        of("pages", "128 pages", &small, "[np]".repeat(127)),
+        of("pages", "256 pages", &small, "[np]".repeat(255)),
+        of("pages", "512 pages", &small, "[np]".repeat(511)),
+        of("", "50 rectangles", &small, "[tr1,1,0,0]".repeat(49)),
     ]
 }

@@ -55,20 +55,51 @@ fn time(mut run: impl FnMut() -> usize) -> f64 {
     }
 }
 
-/// Median, least and most of the rounds' ratios
-fn ratio(
+/// Times of both sides, round by round
+struct Rounds(Vec<(f64, f64)>);
+
+fn rounds(
     mut ours: impl FnMut() -> usize,
     mut rust: impl FnMut() -> usize,
-) -> String {
-    let mut all: Vec<f64> = (0..ROUNDS)
-        .map(|_| time(&mut ours) / time(&mut rust))
-        .collect();
-    all.sort_by(f64::total_cmp);
-    let last = ROUNDS - 1;
-    format!("{:8.3} ({:.3} to {:.3})", all[ROUNDS / 2], all[0], all[last])
+) -> Rounds {
+    let round = |_| (time(&mut ours), time(&mut rust));
+    Rounds((0..ROUNDS).map(round).collect())
 }
 
-fn row(input: &Input, spans: &mut [Span]) {
+fn median(mut all: Vec<f64>) -> f64 {
+    all.sort_by(f64::total_cmp);
+    all[all.len() / 2]
+}
+
+impl Rounds {
+    fn ours(&self) -> f64 {
+        median(self.0.iter().map(|r| r.0).collect())
+    }
+
+    fn rust(&self) -> f64 {
+        median(self.0.iter().map(|r| r.1).collect())
+    }
+
+    /// Median, least and most of the rounds' ratios, less a time of ours
+    fn ratio(&self, less: f64) -> String {
+        let mut all: Vec<f64> =
+            self.0.iter().map(|r| (r.0 - less) / r.1).collect();
+        all.sort_by(f64::total_cmp);
+        let last = all.len() - 1;
+        format!("{:.2} ({:.2} to {:.2})", all[last / 2], all[0], all[last])
+    }
+}
+
+/// What was timed of an input
+struct Timed {
+    series: &'static str,
+    name: &'static str,
+    reading: Rounds,
+    listing: Rounds,
+    first: Rounds,
+}
+
+fn timed(input: &Input, spans: &mut [Span]) -> Timed {
     let Ok(sign) = Sign::read(&input.sign) else {
         panic!("{}: the sign file is refused", input.name);
     };
@@ -76,22 +107,60 @@ fn row(input: &Input, spans: &mut [Span]) {
     let msg = ms.as_bytes();
     let answers = sign.run(ms);
     assert_eq!(answers, list_all(&input.sign, msg, spans), "{}", input.name);
-    let reading = ratio(|| read_all(msg), || run_values(ms));
+    let reading = rounds(|| read_all(msg), || run_values(ms));
     let listing =
-        ratio(|| list_all(&input.sign, msg, spans), || sign.run(ms));
-    let first = ratio(
+        rounds(|| list_all(&input.sign, msg, spans), || sign.run(ms));
+    let first = rounds(
         || usize::from(list(&input.sign, msg, 0, spans).kind),
         || sign.run(ms),
     );
-    println!("| {} | {} | {answers} | {reading} | {listing} | {first} |",
-        input.name, msg.len());
+    // refusal 4 of an empty message: the sign file's check, and little more
+    let none = &mut spans[..0];
+    let check = median(
+        (0..ROUNDS)
+            .map(|_| time(|| usize::from(list(&input.sign, b"", 0, none).kind)))
+            .collect(),
+    );
+    println!(
+        "| {} | {} | {answers} | {} | {} | {} | {} |",
+        input.name,
+        msg.len(),
+        reading.ratio(0.0),
+        listing.ratio(0.0),
+        listing.ratio(check * (answers as f64 + 1.0)),
+        first.ratio(0.0),
+    );
+    Timed { series: input.series, name: input.name, reading, listing, first }
+}
+
+/// How much longer each input of a series takes than the one before it
+fn growth(all: &[Timed]) {
+    println!();
+    println!("| from | to | reading, ours | the Rust's | listing, ours | the Rust's | first answer, ours |");
+    println!("|---|---|---|---|---|---|---|");
+    for pair in all.windows(2) {
+        let (a, b) = (&pair[0], &pair[1]);
+        if a.series.is_empty() || a.series != b.series {
+            continue;
+        }
+        println!(
+            "| {} | {} | {:.1} | {:.1} | {:.1} | {:.1} | {:.1} |",
+            a.name,
+            b.name,
+            b.reading.ours() / a.reading.ours(),
+            b.reading.rust() / a.reading.rust(),
+            b.listing.ours() / a.listing.ours(),
+            b.listing.rust() / a.listing.rust(),
+            b.first.ours() / a.first.ours(),
+        );
+    }
 }
 
 fn main() {
     let mut spans = vec![Span::default(); 1400];
-    println!("| input | bytes | answers | reading all values | listing all answers | the first answer alone |");
-    println!("|---|---|---|---|---|---|");
-    for input in inputs() {
-        row(&input, &mut spans);
-    }
+    println!("| input | bytes | answers | reading all values | listing all answers | the same without the sign file's check | the first answer alone |");
+    println!("|---|---|---|---|---|---|---|");
+    let all: Vec<Timed> =
+        inputs().iter().map(|input| timed(input, &mut spans)).collect();
+    growth(&all);
 }
