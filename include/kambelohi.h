@@ -93,7 +93,7 @@ typedef struct {
  *   12  character not defined, detail its code                     (place of the span)
  *   13  text exceeds the rectangle                                 (place of the span)
  *   14  the baseline is less than the font's height                (place of the span)
- *   15  the page's 51st text rectangle
+ *   15  the page's 51st pass: 50 [tr] on a page
  * What a kind does not use is 0.
  */
 typedef struct {
