@@ -1,4 +1,7 @@
--- What `list`, `list_short` and `list_long` have in common: four parameters, and `list`'s clauses at exit. A walk of any of the three ends in `list`'s own exit.
+-- What `list`, `list_short` and `list_long` have in common: four parameters, and `list`'s clauses at exit. A walk of any of the three ends in `list`'s own exit. `kambelohi_list` has the same four parameters, and an exit of its own.
+--     stayed, gone     what is had of each parameter at exit, and the law that it owes
+--     spelt, tells     the parameters' machine values, and that they have no others
+--     fits             so the numbers that they hold fit
 --     Post             what a walk is to end in
 --     exits            it holds where the answer and the slice are what the listing says, and the tokens and both shared slices are had
 --     Asking R         `list`'s clauses, with R of the message asked at entry
@@ -18,8 +21,8 @@ use prog.Wp.{Heap}
 use ghost.Atoms.{Atoms}
 use contract.Monad.{Fun, Mono}
 use types.Kit.{Given, Item, ‵, _⊛_, ⋆, _$_, _∵_, !, qed, move, fjoin, suffices, frame, done}
-use denote.RattleType.{owns}
-use denote.Laws.{Is}
+use denote.RattleType.{RattleType, owns}
+use denote.Laws.{Is, Are, Ises, Spells, Tellss}
 use denote.Memory.{pointee}
 use denote.Plain.{uint-makes, uint-vals, uint-tells}
 use denote.Builtin.{u8, usize}
@@ -30,7 +33,7 @@ use denote.Enum.Laws as EL
 use denote.Triple.Entry.{onEntry}
 use denote.Triple.Spec.{Meets}
 use denote.Triple.Clauses.{Clauses, closing}
-use denote.Triple.Walked.{says, Stays, stay-none, stay-none-slice, gave-slice, walkOf, goes-none, goes-none-slice, goes-gave-slice, ends-at, walked, walk-meets}
+use denote.Triple.Walked.{says, Stays, stay-none, stay-none-slice, gave-slice, walkOf, goes-none, goes-none-slice, goes-gave-slice, AllGo, ends-at, walked, walk-meets}
 use denote.Exit.{yes}
 use denote.Signature.{plain}
 use Rattle.layout.specs.declared.Span.{Span}
@@ -41,8 +44,12 @@ use Rattle.layout.proofs.Answer as N
 use Rattle.layout.proofs.Answer.Laws as N′
 use Rattle.listing.proofs.list as f
 
-abbrev stayed : Stays (f.ended .signature .params) (f.ended .kept)
+abbrev pub stayed : Stays (f.ended .signature .params) (f.ended .kept)
 stayed = (stay-none-slice (0 ∷ []) tt (plain (λ _. u8)) yes, (stay-none-slice (1 ∷ []) tt (plain (λ _. u8)) yes, (stay-none (λ _. usize) yes, (gave-slice (2 ∷ []) tt (plain (λ _. T.the-row)), tt))))
+
+module _ {M : Type 1} (𝓤 : URA M) (H : Heap 𝓤) (A : Atoms 𝓤) (W : Given 𝓤 H A) where
+  abbrev pub gone : AllGo 𝓤 H A W 3 (f.ended .signature .params) (f.ended .kept) stayed
+  gone = (goes-none-slice 𝓤 H A W 3 (0 ∷ []) tt (plain (λ _. u8)) yes, (goes-none-slice 𝓤 H A W 3 (1 ∷ []) tt (plain (λ _. u8)) yes, (goes-none 𝓤 H A W 3 (λ _. usize) yes (λ κs x f. refl), (goes-gave-slice 𝓤 H A W 3 2 tt (plain (λ _. T.the-row)), tt))))
 
 -- ---- types of locals
 abbrev pub word : Ty
@@ -80,6 +87,18 @@ passed a = slice-val (a .0) ∷ slice-val (a .1 .0) ∷ vint w64 (a .1 .1 .0) �
 abbrev pub Fit : Arg → Type 0
 Fit a = (length (a .0 .now) < 2 ^ 64) × (length (a .1 .0 .now) < 2 ^ 64) × (a .1 .1 .0 < 2 ^ 64) × Room T.the-row (length (a .1 .1 .1 .0 .now))
 
+abbrev Types : Lifetimes → List RattleType
+Types κs = ShrSlice (named 0) (κs .0) u8 ∷ ShrSlice (named 1) (κs .1 .0) u8 ∷ usize ∷ MutSlice (named 2) (κs .1 .1 .0) T.the-row ∷ []
+
+abbrev pub spelt : (κs : Lifetimes) → Spells (Types κs)
+spelt κs = (slice-vals, (slice-vals, (uint-vals w64, (slice-vals, tt))))
+
+abbrev pub tells : (κs : Lifetimes) → Tellss (Types κs) (Ises (Types κs)) (spelt κs)
+tells κs = (shr-slice-tells (named 0) (κs .0) u8, (shr-slice-tells (named 1) (κs .1 .0) u8, (uint-tells w64, (mut-slice-tells (named 2) (κs .1 .1 .0) T.the-row, tt))))
+
+abbrev pub fits : (κs : Lifetimes) (a : Arg) → Are (Types κs) (Ises (Types κs)) a (at a) → Fit a
+fits κs a are = (are .0 .0 .1 .0, are .1 .0 .0 .1 .0, are .1 .1 .0 .1, are .1 .1 .1 .0 .0 .1)
+
 -- what is known of the answer r and the slice's last list
 abbrev pub Listed : Arg → Answer → List Span → Type 0
 Listed a r ws = (r ≡ listing (now (a .0)) (now (a .1 .0)) (a .1 .1 .0) (now (a .1 .1 .1 .0))) × (ws ≡ after (now (a .0)) (now (a .1 .0)) (a .1 .1 .0) (now (a .1 .1 .1 .0)))
@@ -90,7 +109,7 @@ module _ {M : Type 1} (𝓤 : URA M) (κs : Lifetimes) (qs : Shares) where
 
 module _ (κs : Lifetimes) (a : Arg) where
   abbrev pub Owned : Fml
-  Owned = owns (ShrSlice (named 0) (κs .0) u8 ∷ ShrSlice (named 1) (κs .1 .0) u8 ∷ usize ∷ MutSlice (named 2) (κs .1 .1 .0) T.the-row ∷ []) a (at a)
+  Owned = owns (Types κs) a (at a)
 
   abbrev pub OwnF : Fml
   OwnF = ShrSlice (named 0) (κs .0) u8 .own (a .0) (slice-val (a .0) ∷ [])
@@ -123,7 +142,5 @@ module _ {M : Type 1} (𝓤 : URA M) (H : Heap 𝓤) (A : Atoms 𝓤) (mem : Mem
         → ((κs : Lifetimes) (qs : Shares) (a : Arg) → Fit a → Q (now (a .1 .0)) → ent 𝓤 (onEntry 𝓤 H A f.signature κs qs a (at a)) (F (passed a) (Post κs qs a)))
         → Meets 𝓤 H A f.signature F (closing 𝓤 H A f.ended (Asking R))
     meets F mono R Q opens walks =
-        walk-meets 𝓤 H A f.ended stayed W (goes-none-slice 𝓤 H A W 3 (0 ∷ []) tt (plain (λ _. u8)) yes, (goes-none-slice 𝓤 H A W 3 (1 ∷ []) tt (plain (λ _. u8)) yes, (goes-none 𝓤 H A W 3 (λ _. usize) yes (λ κs x f. refl), (goes-gave-slice 𝓤 H A W 3 2 tt (plain (λ _. T.the-row)), tt)))) (Asking R) F mono
-        (walked 𝓤 H A f.ended stayed (Asking R) F
-        (λ κs. (slice-vals, (slice-vals, (uint-vals w64, (slice-vals, tt))))) (λ κs. (shr-slice-tells (named 0) (κs .0) u8, (shr-slice-tells (named 1) (κs .1 .0) u8, (uint-tells w64, (mut-slice-tells (named 2) (κs .1 .1 .0) T.the-row, tt)))))
-        (λ κs qs bounds a g are. opens (now (a .1 .0)) _ _ (λ q. walks κs qs a (are .0 .0 .1 .0, are .1 .0 .0 .1 .0, are .1 .1 .0 .1, are .1 .1 .1 .0 .0 .1) q)))
+        walk-meets 𝓤 H A f.ended stayed W (gone 𝓤 H A W) (Asking R) F mono
+        (walked 𝓤 H A f.ended stayed (Asking R) F spelt tells (λ κs qs bounds a g are. opens (now (a .1 .0)) _ _ (λ q. walks κs qs a (fits κs a are) q)))
