@@ -17,7 +17,6 @@ use Rattle.sign.specs.Given.{given as tableOf}
 use Rattle.sign.specs.declared.SignFile.{SignFile}
 use Rattle.sign.specs.declared.Outcome.the-variants.{Accepted as AcceptedOutcome, RefusedAt as RefusedOutcome}
 use Rattle.sign.proofs.Answer.{Accepts, accepts, refuses}
-use Rattle.layout.specs.declared.Span.{Span}
 use Rattle.layout.specs.declared.Answer.{Answer}
 use Rattle.layout.specs.declared.Answer.the-variants.{On, Off, End, Refused}
 use Rattle.layout.specs.Types.{items, Board, refusal}

@@ -10,7 +10,6 @@ ghost use Rattle.answer.specs.Answer.{told, answerBy, Countable, countOf
 ghost use Rattle.rows.specs.Rows.{spansOf};
 use layout::Answer;
 use pages::NextPage;
-use pages::Pages;
 use reading::Refusal;
 use sign::Outcome;
 use sign::SignFile;

@@ -20,7 +20,7 @@ use Rattle.layout.specs.Types.{Item, items, Board}
 use Rattle.font.specs.Table.{fontNumbered}
 use Rattle.measure.specs.declared.Measure.{Measure}
 use Rattle.measure.specs.declared.Measure.the-variants.{Width, Missing}
-use Rattle.layout.specs.Fonts.{charsOf, versionFault, missing, widthOf, measureIn, charFaultAfter, faultIn, widthIn, heightIn, meterOf, boardOf}
+use Rattle.layout.specs.Fonts.{versionFault, missing, widthOf, measureIn, charFaultAfter, faultIn, widthIn, heightIn, meterOf, boardOf}
 use Rattle.layout.specs.Place.{keep, select, same, firstFault, faultAt, spanFault, passFault, passRecords, recordOf}
 use Rattle.layout.specs.Read.{Scan, Event, pass, close, stop, stopIf, whole, start, read, opening, events}
 use Rattle.layout.specs.Listing.{Page, on, off, refused, stopAt, offs, passStop, walk, pages}

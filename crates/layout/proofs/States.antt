@@ -1,6 +1,6 @@
 -- The next state after [jp].
 use Prim.Native.Nat.{ℕ}
-use mathlib.Core.Path.{_≡_, refl}
+use mathlib.Core.Path.{_≡_}
 use borrow.Author.Tests.{eq-eqb, ne-eqb}
 use Rattle.layout.specs.declared.RenderState.{RenderState}
 use Rattle.layout.specs.Read.{withJustPage}

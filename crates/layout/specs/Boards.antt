@@ -3,7 +3,6 @@ use Prim.Native.Nat.{ℕ, zero, suc, _+_, _*_, _/_}
 use Prim.Native.String.{String}
 use mathlib.Core.Path.{_≡_, refl}
 use mathlib.Core.List.{List, [], _∷_, _++_}
-use Rattle.base.specs.Pick.{pick}
 use Rattle.base.specs.Text.{ascii}
 use Rattle.number.specs.Number.{digitOf, readFrom, readDigits, readNumber, versionId}
 use Rattle.utf8.specs.Utf8.{first, extra, low as lowByte, high, fits as fitsDue, after as afterDue, wellFormedFrom, wellFormed, codeOf, codesFrom, codes, allLatin1}

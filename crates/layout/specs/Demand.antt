@@ -3,7 +3,7 @@ use Prim.Native.Nat.{ℕ, zero, suc, _+_, _≤_, _<_, _%_}
 use mathlib.Core.Path.{_≡_}
 use mathlib.Core.Logic.{_⊎_}
 use mathlib.Core.List.{List, [], _∷_, _++_, map}
-use mathlib.Core.Option.{some, none}
+use mathlib.Core.Option.{some}
 use lib.Dec.{leb}
 use lib.ListN.{length, take}
 use Rattle.base.specs.Pick.{pick}

@@ -1,9 +1,8 @@
 -- Document 01, "The calls", Listing: the answers of a message, and the answer and the lent slice of one call.
 use Prim.Native.Nat.{ℕ, zero, suc}
-use mathlib.Core.Bool.{Bool, true, false}
 use mathlib.Core.Option.{Option, none, some}
 use mathlib.Core.List.{List, [], _∷_, _++_}
-use lib.Dec.{leb, ltb, eqb}
+use lib.Dec.{ltb}
 use lib.ListN.{length, drop}
 use Rattle.base.specs.Pick.{pick}
 use Rattle.utf8.specs.Utf8.{wellFormed}

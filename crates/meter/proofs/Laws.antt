@@ -33,7 +33,7 @@ use Rattle.measure.specs.declared.Measure.the-variants.{Width, Missing}
 use Rattle.measure.specs.Measure.{widened, after, widthAfter, textWidth}
 use Rattle.layout.specs.declared.Entry.{Entry}
 use Rattle.layout.specs.Types.{given, Meter}
-use Rattle.layout.specs.Fonts.{versionFault, charsOf, missing, widthOf, measureIn, charFaultAfter, faultIn, meterOf}
+use Rattle.layout.specs.Fonts.{versionFault, charsOf, widthOf, measureIn, charFaultAfter, faultIn, meterOf}
 use Rattle.rows.specs.declared.Row.{Row}
 use Rattle.rows.specs.Measured.{flag, faultNumber, faultDetail, gaugeOf, rowBy, rowOf}
 use Rattle.rows.specs.declared.Gauge.{Gauge}

@@ -1,7 +1,6 @@
 -- Worked numbers, by computation.
-use Prim.Native.Nat.{ℕ}
 use mathlib.Core.Path.{_≡_, refl}
-use mathlib.Core.List.{List, [], _∷_, _++_}
+use mathlib.Core.List.{_++_}
 use Rattle.base.specs.Text.{ascii}
 use Rattle.number.specs.declared.Number.the-variants.{Is, Refused}
 use Rattle.number.specs.Number.{digitOf, readFrom, readDigits, readNumber, versionId}

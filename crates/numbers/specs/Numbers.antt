@@ -1,7 +1,7 @@
 -- A value as numbers: the place of its case in `enum Value`, from 1, and eight numbers, those that the case does not use being 0.
 -- tests/FORMAT.md has the same table. An option is 0 0, or 1 and its number; a colour is 0 and its number, or 1, red, green and blue.
 use Prim.Native.Nat.{ℕ}
-use mathlib.Core.List.{List, [], _∷_}
+use mathlib.Core.List.{[], _∷_}
 use Rattle.value.specs.declared.Color.{Color}
 use Rattle.value.specs.declared.Color.the-variants.{Legacy, Rgb}
 use Rattle.value.specs.declared.FlashOrder.{FlashOrder}

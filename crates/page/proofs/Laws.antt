@@ -1,12 +1,12 @@
 -- The scan's ways on and out.
 use Prim.Native.Nat.{ℕ, _+_, _-_, _≤_, _<_}
-use mathlib.Core.Path.{_≡_, refl, sym, _∙_, ap}
+use mathlib.Core.Path.{_≡_, sym, _∙_, ap}
 use mathlib.Core.Bool.{Bool, true, false}
-use mathlib.Core.List.{List, [], _∷_, map}
+use mathlib.Core.List.{List, _∷_, map}
 use native.Mathlib.Omega.{arith}
 use lib.ListN.{length, take, drop, length-drop}
 use lib.Seq.{length-take-le}
-use Rattle.token.specs.Token.{Slice, sliceLen, cuts}
+use Rattle.token.specs.Token.{Slice, sliceLen}
 use Rattle.token.proofs.Laws.{cuts-next, cuts-end, next-le, next-from, next-less}
 use Rattle.base.specs.Pick.{pick}
 use Rattle.value.specs.declared.OptTag.{OptTag}
@@ -22,7 +22,7 @@ use Rattle.page.specs.declared.OptRefusal.the-variants.{Some, None}
 use Rattle.page.specs.declared.PageScan.{PageScan}
 use Rattle.page.specs.declared.Turn.{Turn}
 use Rattle.page.specs.declared.Turn.the-variants.{On, Stop}
-use Rattle.page.specs.Scan.{told, ended, turnBy, turnAt, itemsFrom}
+use Rattle.page.specs.Scan.{told, turnBy, turnAt, itemsFrom}
 
 -- a tag's support: t is its bit, s whether the sign has it
 module _ (tags : ℕ) (v : Value) (m : Mark) (t : OptTag) (e : t ≡ tagOf v) (s : Bool) (f : s ≡ hasTag tags t) where

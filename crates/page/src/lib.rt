@@ -9,7 +9,6 @@ use layout::Mark;
 use reading::Item;
 use reading::Refusal;
 use records::Config;
-use value::OptNum;
 use value::Place;
 use value::Value;
 

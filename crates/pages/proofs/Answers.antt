@@ -26,7 +26,7 @@ use Rattle.pages.specs.declared.PageEnd.{PageEnd}
 use Rattle.pages.specs.declared.PageEnd.the-variants.{Refused as RefusedEnd, Next as NextEnd, Last as LastEnd}
 use Rattle.pages.specs.declared.Pages.{Pages}
 use Rattle.pages.specs.declared.NextPage.{NextPage}
-use Rattle.pages.specs.declared.NextPage.the-variants.{On as NextOn, Off as NextOff, End as NextNone, Refused as NextRefused}
+use Rattle.pages.specs.declared.NextPage.the-variants.{Off as NextOff, End as NextNone, Refused as NextRefused}
 use Rattle.pages.specs.Pages.{run, turned, pageTold, PageFits, pagesAt, shownBy, offBy, firstOf, todoBy, todo, nextTold, Sound, weight, Keeps}
 use Rattle.pages.proofs.Laws.{whole-inside}
 

@@ -16,7 +16,7 @@ use Rattle.layout.specs.declared.RenderState.{RenderState}
 use Rattle.layout.specs.declared.Entry.{Entry}
 use Rattle.layout.specs.declared.Span.{Span}
 use Rattle.layout.specs.Types.{Item, Board, refusal}
-use Rattle.layout.specs.Read.{Event, newPage, whole, read}
+use Rattle.layout.specs.Read.{Event, newPage, whole}
 use Rattle.layout.specs.Place.{orElse, unless, passFault, passRecords}
 use Rattle.layout.specs.Listing.{Page, on, refused as refusedPage, offs, stopAt, walk}
 use Rattle.page.specs.Scan.{itemsFrom}

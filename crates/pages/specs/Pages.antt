@@ -13,7 +13,7 @@ use Rattle.layout.specs.declared.Entry.{Entry}
 use Rattle.layout.specs.declared.Span.{Span}
 use Rattle.layout.specs.Types.{Item, Board, refusal}
 use Rattle.layout.specs.Read.{Scan, scan, stopIf, start, read}
-use Rattle.layout.specs.Place.{unless, passFault, passRecords}
+use Rattle.layout.specs.Place.{passFault, passRecords}
 use Rattle.layout.specs.Listing.{Page, on, off, refused as refusedPage, offs, walk}
 use Rattle.page.specs.declared.PageState.{PageState}
 use Rattle.page.specs.declared.PageState.the-variants.{On as OnState, Off as OffState, Done}

@@ -1,12 +1,11 @@
 -- An answer taken apart by `let else`: the two ways on.
-use Prim.Native.Nat.{ℕ, pred, _+_, _*_, _^_, _≤_, _<_}
-use mathlib.Core.Path.{_≡_, refl, sym, _∙_, ap}
+use Prim.Native.Nat.{ℕ, pred, _^_, _≤_}
+use mathlib.Core.Path.{_≡_}
 use mathlib.Core.List.{List}
 use native.Mathlib.Omega.{arith}
 use mir.Syntax.{Width}
 use mir.Val.{Fits, bits}
 use lib.Pow.{pow-pos}
-use Rattle.base.specs.Pick.{pick, picks, answers}
 use Rattle.number.specs.Number.{readNumber, versionId}
 use Rattle.number.specs.declared.Number.{Number}
 use Rattle.number.specs.declared.Number.the-variants.{Is, Refused}

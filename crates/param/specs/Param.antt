@@ -1,7 +1,7 @@
 -- Parameters of tags that are more than one number. `upTo 44`, `past 44` and `holds 44` speak of the first comma: what stands before it, after
 -- it, and whether there is one; so the last part of a list keeps its commas, as with Rust's `splitn`.
 use Prim.Native.Nat.{ℕ, _-_}
-use mathlib.Core.List.{List, [], _∷_}
+use mathlib.Core.List.{List}
 use lib.Dec.{leb, eqb}
 use lib.ListN.{length, getD}
 use Rattle.base.specs.Pick.{pick}

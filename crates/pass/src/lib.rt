@@ -5,7 +5,6 @@ ghost use Prim.Native.Nat.{_+_, _*_, _-_, _≤_, _<_};
 ghost use lib.ListN.{length, take, drop};
 ghost use Rattle.layout.specs.Read.{itemStep};
 ghost use Rattle.page.specs.Scan.{itemsFrom};
-ghost use Rattle.reading.specs.Reading.{place};
 ghost use Rattle.render.specs.Steps.{itemAt};
 ghost use Rattle.rows.specs.Measured.{rowOf};
 ghost use Rattle.meter.specs.Gauges.{Opened, Held, meterIn};

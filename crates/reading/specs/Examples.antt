@@ -2,7 +2,7 @@
 use Prim.Native.Nat.{ℕ}
 use Prim.Native.String.{String}
 use mathlib.Core.Path.{_≡_, refl}
-use mathlib.Core.List.{List, [], _∷_, _++_}
+use mathlib.Core.List.{[], _∷_}
 use Rattle.base.specs.Text.{ascii}
 use Rattle.number.specs.Number.{digitOf, readFrom, readDigits, readNumber, versionId}
 use Rattle.utf8.specs.Utf8.{first, extra, low, high, fits, after, wellFormedFrom, wellFormed, codeOf, codesFrom, codes, allLatin1, continues, insideCharacter}
@@ -22,8 +22,7 @@ use Rattle.value.specs.declared.Value.the-variants.{ColorForeground, ColorRecta
 use Rattle.param.specs.Param.{number, optional, xy, rectangle, color, readOptional, optionalVersion, justification, readXy, rectangleOf, readRgb, rgbOf, colorOf}
 use Rattle.tag.specs.Tag.{newLine, newPage, font, justificationLine, justificationPage, pageTime, pageBackground, colorForeground, colorBackground, fourOf, fifth, colorRectangle, lastFour, textRectangle, spacingCharacter, hexadecimalCharacter, flashOn, flashOff, flashTime, field, pointOf, graphicAt, graphic, spacingCharacterEnd, flashEnd}
 use Rattle.parse.specs.Parse.{textOf, manufacturerSpecific, manufacturerSpecificEnd, movement, movementParts, movementOf, moved, movingTextMode, movingTextLinear, movingText, endName, firstName, nameBy, nameOf, tagValue}
-use Rattle.reading.specs.declared.Reading.{Reading}
-use Rattle.reading.specs.declared.Reading.the-variants.{Slice, End, Refused}
+use Rattle.reading.specs.declared.Reading.the-variants.{Slice, End}
 use Rattle.reading.specs.Reading.{place, refused, tagItem, textItem, itemOf, sliceReading, readingAt, reading}
 
 -- the value of a message of one slice

@@ -1,7 +1,7 @@
 -- Document 01, "The calls", Reading: "message, offset; gives the slice with its value, or end at the message's length. It looks at the slice at
 -- the offset only, and uses 2, 3, 4 for the offset, 5 for unknown tags, 6 for parameters and 7."
 use Prim.Native.Nat.{ℕ, _+_, _-_}
-use mathlib.Core.List.{List, [], _∷_}
+use mathlib.Core.List.{List}
 use lib.Dec.{leb, ltb, eqb}
 use lib.ListN.{length, take, drop}
 use Rattle.base.specs.Pick.{pick}

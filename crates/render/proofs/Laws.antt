@@ -6,7 +6,7 @@ use native.Mathlib.Numerals.{add-one}
 use native.Mathlib.Nat.{mod-eq-of-lt}
 use native.Mathlib.Omega.{arith}
 use borrow.Author.Tests.{leb-true, le-ltb, lt-ltb, lt-leb, le-leb, eq-eqb, ne-eqb}
-use lib.Dec.{leb, ltb, eqb}
+use lib.Dec.{leb, eqb}
 use Rattle.base.specs.Pick.{pick, picks}
 use Rattle.value.specs.declared.OptNum.{OptNum}
 use Rattle.value.specs.declared.OptNum.the-variants.{Some, None}
@@ -17,7 +17,7 @@ use Rattle.layout.specs.declared.Rect.{Rect}
 use Rattle.layout.specs.declared.RenderState.{RenderState}
 use Rattle.layout.specs.declared.Entry.{Entry}
 use Rattle.layout.specs.declared.Step.{Step}
-use Rattle.layout.specs.declared.Step.the-variants.{Refuse, Go, Emit, Cut, Turn}
+use Rattle.layout.specs.declared.Step.the-variants.{Refuse, Go, Emit, Cut}
 use Rattle.layout.specs.Types.{Item, refusal}
 use Rattle.layout.specs.Read.{entryOf, withSpan, withLine, spanStep, lineStep, justified, goIf, extent, unit, fits, rectOf, rectFits, withRect, rectStep}
 use Rattle.render.specs.Steps.{itemAt}

@@ -1,5 +1,4 @@
 -- The place of an item, as the code has it.
-use Prim.Native.Nat.{ℕ}
 use Rattle.value.specs.declared.Place.{Place}
 use Rattle.reading.specs.declared.Item.the-variants.{Fails}
 use Rattle.layout.specs.Types.{Item}

@@ -1,6 +1,6 @@
 -- What holds of a place in the input that goes on from another.
 use Prim.Native.Nat.{ℕ, _≤_}
-use mathlib.Core.Path.{_≡_, sym}
+use mathlib.Core.Path.{_≡_}
 use native.Mathlib.Omega.{arith}
 use Rattle.vectors.specs.Text.{Within}
 use Rattle.vectors.specs.declared.Window.{Window}

@@ -1,6 +1,6 @@
 -- Document 01, "Tag parser", and the parse_ functions of multi.rs: what a tag says. Each definition takes the bytes p after the tag's name.
 -- `upTo s`, `past s` and `holds s` speak of the first separator s in p, in either letter case (44 is the comma, 111 o, 116 t).
-use Prim.Native.Nat.{ℕ, _-_}
+use Prim.Native.Nat.{ℕ}
 use mathlib.Core.List.{List}
 use lib.Dec.{eqb}
 use lib.ListN.{length, getD, drop}

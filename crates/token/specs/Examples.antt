@@ -2,8 +2,7 @@
 use Prim.Native.Nat.{ℕ}
 use Prim.Native.String.{String}
 use mathlib.Core.Path.{_≡_, refl}
-use mathlib.Core.List.{List, [], _∷_}
-use Rattle.base.specs.Pick.{pick}
+use mathlib.Core.List.{[], _∷_}
 use Rattle.base.specs.Text.{ascii}
 use Rattle.token.specs.declared.Shape.the-variants.{Bracket, Tag, Stray, Text}
 use Rattle.token.specs.Token.{plainLen, tagLen, restLen, Slice, slices, isPair, lastByte, shapeOf}

@@ -1,9 +1,9 @@
 -- Document 01, "Tokenizer": how a message is cut into slices, and of what shape a slice is.
 use Prim.Native.Nat.{ℕ, zero, suc, _+_, _-_}
 use mathlib.Core.List.{List, [], _∷_, _++_}
-use mathlib.Core.Bool.{Bool, true, false}
+use mathlib.Core.Bool.{Bool, false}
 use lib.Dec.{eqb}
-use lib.ListN.{length, getD, take, drop}
+use lib.ListN.{length, getD, take}
 use Rattle.base.specs.Pick.{pick}
 use Rattle.token.specs.declared.Shape.{Shape}
 use Rattle.token.specs.declared.Shape.the-variants.{Bracket, Tag, Stray, Text}

@@ -12,7 +12,7 @@ use Rattle.base.specs.Pick.{pick, picks}
 use Rattle.base.specs.Lists.{drop-step, past-end}
 use Rattle.utf8.specs.declared.Due.{Due}
 use Rattle.utf8.specs.declared.Code.{Code}
-use Rattle.utf8.specs.Utf8.{first, extra, due, fits, after, wellFormedFrom, allAscii, bits, codeOf, codesFrom, codes, coded, codeAt, allLatin1}
+use Rattle.utf8.specs.Utf8.{extra, due, fits, after, wellFormedFrom, allAscii, bits, codeOf, codesFrom, codes, coded, codeAt, allLatin1}
 
 -- `after`
 pub due-same : (k lo hi k′ lo′ hi′ : ℕ) → k ≡ k′ → lo ≡ lo′ → hi ≡ hi′ → due k lo hi ≡ due k′ lo′ hi′

@@ -1,12 +1,12 @@
 -- Bits.
 use Prim.Native.Nat.{ℕ, _+_, _-_, _/_, _%_, _^_, _≤_, _<_}
-use mathlib.Core.Path.{_≡_, refl}
+use mathlib.Core.Path.{_≡_}
 use native.Mathlib.Omega.{arith}
-use mathlib.Core.Bool.{Bool, true, false}
+use mathlib.Core.Bool.{false}
 use lib.Bits.{bitAnd, and-mask}
 use lib.Dec.{eqb}
-use Rattle.base.specs.Pick.{pick, picks}
-use Rattle.value.specs.declared.OptTag.the-variants.{Some, None}
+use Rattle.base.specs.Pick.{picks}
+use Rattle.value.specs.declared.OptTag.the-variants.{Some}
 use Rattle.value.specs.Tag.{fieldTag, hasTag}
 
 -- a field's bit, as the code counts it

@@ -1,7 +1,7 @@
 -- The bit of each value's name in `enum Tag`, and whether a sign supports it. Document 01, "Tag parser": "`Value::tag` gives each value its
 -- name's bit of `enum Tag`, [/sc] that of sc, fields 1 to 13 F1 to F13, text none."
 use Prim.Native.Nat.{ℕ, _+_, _/_, _%_, _^_}
-use mathlib.Core.Bool.{Bool, true, false}
+use mathlib.Core.Bool.{Bool, false}
 use lib.Dec.{leb, ltb, eqb}
 use Rattle.base.specs.Pick.{pick}
 use Rattle.value.specs.declared.OptTag.{OptTag}

@@ -1,4 +1,3 @@
-use native.Mathlib.Omega.{arith}
 use borrow.Author.Needs.{needs}
 use Rattle.answer.proofs.paged.Statement.{statement}
 use Rattle.answer.proofs.paged.Tie as tie

@@ -1,5 +1,4 @@
 use Rattle.page.specs.Scan.{turnAt}
-use Rattle.page.proofs.Laws.{part-room}
 use borrow.Author.Needs.{needs}
 use Rattle.page.proofs.turn_at.Statement.{statement}
 use Rattle.page.proofs.turn_at.Tie as tie

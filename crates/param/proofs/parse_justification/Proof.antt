@@ -1,5 +1,5 @@
 use Rattle.base.specs.Pick.{picks, answers}
-use Rattle.param.proofs.Laws.{apart, fits}
+use Rattle.param.proofs.Laws.{apart}
 use Rattle.param.specs.Param.{justification}
 use borrow.Author.Needs.{needs}
 use Rattle.param.proofs.parse_justification.Statement.{statement}

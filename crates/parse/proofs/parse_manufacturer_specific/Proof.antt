@@ -1,5 +1,5 @@
 use Rattle.base.specs.Pick.{picks, answers}
-use Rattle.param.proofs.Laws.{apart, fits}
+use Rattle.param.proofs.Laws.{apart}
 use Rattle.parse.specs.Parse.{manufacturerSpecific}
 use borrow.Author.Needs.{needs}
 use Rattle.parse.proofs.parse_manufacturer_specific.Statement.{statement}

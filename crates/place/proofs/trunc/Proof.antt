@@ -1,6 +1,5 @@
 use borrow.Author.Needs.{needs}
 use native.Mathlib.Nat.{div-mul-le-self}
-use native.Mathlib.Omega.{arith}
 use Rattle.place.proofs.Laws.{trunc-is}
 use Rattle.place.proofs.trunc.Statement.{statement}
 use Rattle.place.proofs.trunc.Tie as tie

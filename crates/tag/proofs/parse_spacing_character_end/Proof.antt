@@ -1,5 +1,5 @@
 use Rattle.base.specs.Pick.{picks, answers}
-use Rattle.param.proofs.Laws.{apart, fits}
+use Rattle.param.proofs.Laws.{apart}
 use Rattle.tag.specs.Tag.{spacingCharacterEnd}
 use Rattle.tag.proofs.parse_spacing_character_end.Statement.{statement}
 use Rattle.tag.proofs.parse_spacing_character_end.Tie as tie

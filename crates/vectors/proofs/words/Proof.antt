@@ -1,7 +1,7 @@
 use native.Mathlib.Omega.{arith}
 use mathlib.Core.Logic.{⊎-elim}
 use borrow.Author.Needs.{needs}
-use Prim.Native.Nat.{_≤_, _-_, _+_, _*_}
+use Prim.Native.Nat.{_≤_, _-_, _+_}
 use lib.ListN.{length}
 use Rattle.vectors.proofs.words.Statement.{statement}
 use Rattle.vectors.proofs.words.Tie as tie
