@@ -2,13 +2,15 @@
 use layout::Answer;
 use layout::Span;
 use reading::Refusal;
+use replay::Input;
 use vectors::Bytes;
 use vectors::Phase;
 use vectors::Stream;
 ghost use mathlib.Core.Path.{_≡_};
 ghost use Prim.Native.Nat.{_≤_};
 ghost use lib.ListN.{length};
-ghost use Rattle.replay_listings.specs.Good.{Held};
+ghost use Rattle.replay_listings.specs.Held.{Held};
+ghost use Rattle.vectors.specs.Text.{Within};
 
 // The sign file that came last, and the case whose answers are read.
 // len, text: the bytes of the file and of the message. seen: a file came. answer, row: the next answer, and its next record.
@@ -257,7 +259,7 @@ impl Check {
     }
 
     // After a line with that number, at a place of the stream.
-    pub fn turn(
+    fn turn(
         self,
         line: &[u8],
         number: u32,
@@ -303,7 +305,7 @@ impl Check {
     }
 
     // After a line, between two places of the stream.
-    pub fn settled(self, was: Stream, then: Stream) -> Check
+    fn settled(self, was: Stream, then: Stream) -> Check
         ensures { λ r. ⌜ Held r (self .len) (self .text) ⌝ }
     {
         let old = was.phase;
@@ -315,5 +317,27 @@ impl Check {
             return self.counted();
         }
         self
+    }
+
+    // After a turn of the input, whose bytes buf holds.
+    pub fn after_turn(
+        self,
+        input: Input,
+        buf: &[u8],
+        file: &mut [u8],
+        msg: &mut [u8],
+        out: &mut [u16],
+    ) -> Check
+        requires { ⌜ Within (input .came) (length (now buf)) × Held self (length (now file)) (length (now msg)) × (length (now out) ≡ 30720) ⌝ }
+        ensures { λ r. ⌜ Held r (length (now (file .exit))) (length (now (msg .exit))) × (length (now (out .exit)) ≡ 30720) ⌝ }
+    {
+        if !input.read {
+            return self;
+        }
+        let line = input.came;
+        let at = line.at;
+        let end = line.end;
+        let check = self.turn(&buf[at..end], input.line, input.was, file, msg, out);
+        check.settled(input.was, input.stream)
     }
 }

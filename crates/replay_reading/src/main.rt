@@ -2,21 +2,11 @@
 mod compare;
 
 use compare::Check;
+use replay::Input;
 use vectors::Stream;
-use vectors::Window;
 ghost use Prim.Native.Nat.{_≤_, _<_};
 ghost use lib.ListN.{length};
-ghost use mathlib.Core.Path.{_≡_};
-ghost use Rattle.replay_reading.specs.Good.{Good};
-
-// A place in the input. line: the number of the line that comes.
-struct Run {
-    window: Window,
-    stream: Stream,
-    check: Check,
-    line: u32,
-    going: bool,
-}
+ghost use Rattle.vectors.specs.Text.{Within};
 
 // Where the cases of a kind are counted; those that agree, four further on.
 fn place(kind: u8) -> usize
@@ -67,114 +57,26 @@ fn settle_at(
     }
 }
 
-impl Run {
-    fn start() -> Run
-        ensures { λ r. ⌜ Good r 0 0 ⌝ }
-    {
-        Run {
-            window: Window {
-                start: 0,
-                at: 0,
-                end: 0,
-            },
-            stream: vectors::start(),
-            check: compare::none(true),
-            line: 1,
-            going: true,
-        }
+// The check after a turn of the input, whose bytes buf holds.
+fn after_turn(
+    check: Check,
+    input: Input,
+    buf: &[u8],
+    msg: &mut [u8],
+    scores: &mut [u32; 8],
+) -> Check
+    requires { ⌜ Within (input .came) (length (now buf)) × (check .len ≤ length (now msg)) ⌝ }
+    ensures { λ r. ⌜ r .len ≤ length (now (msg .exit)) ⌝ }
+{
+    if !input.read {
+        return check;
     }
-
-    // After a line that is not of the format.
-    fn stopped(mut self) -> Run
-        ensures { λ r. ⌜ (r .window ≡ self .window) × (r .check ≡ self .check) ⌝ }
-    {
-        self.going = false;
-        self
-    }
-
-    // After a line that ends at a place. A case stays in the window until its answer came.
-    fn passed(self, end: usize, then: Stream, check: Check) -> Run
-        requires { ⌜ (self .window .start ≤ end) × (end < self .window .end) ⌝ }
-        ensures { λ r. ⌜ Good r (self .window .end) (check .len) ⌝ }
-    {
-        let w = self.window;
-        let next = w.past(end, then.answers());
-        Run {
-            window: next,
-            stream: then,
-            check,
-            line: vectors::up(self.line),
-            going: true,
-        }
-    }
-
-    // After the line of text that ends at a place.
-    fn taken(self, text: &[u8], end: usize, msg: &mut [u8], scores: &mut [u32; 8]) -> Run
-        requires { ⌜ Good self (length (now text)) (length (now msg)) ⌝ }
-        requires { ⌜ (self .window .at ≤ end) × (end < self .window .end) ⌝ }
-        ensures { λ r. ⌜ Good r (length (now (text .entry))) (length (now (msg .exit))) ⌝ }
-    {
-        let w = self.window;
-        let start = w.start;
-        let at = w.at;
-        let was = self.stream;
-        let line = &text[at..end];
-        let then = was.next(line);
-        if then.is_bad() {
-            return self.stopped();
-        }
-        let check = self.check.turn(line, self.line, was, then, msg);
-        if !check.good {
-            return self.stopped();
-        }
-        settle_at(check, was, then, text, start, scores);
-        self.passed(end, then, check)
-    }
-
-    // After more input, or its end.
-    fn filled(mut self, buf: &mut [u8], most: usize) -> Run
-        requires { ⌜ Good self (length (now buf)) most ⌝ }
-        ensures { λ r. ⌜ Good r (length (now (buf .exit))) most ⌝ }
-    {
-        let old = self.window;
-        let w = replay::fill(buf, old);
-        self.window = w;
-        self.going = old.end - old.at < w.end - w.at;
-        self
-    }
-
-    // The next line, or more input.
-    fn step(self, buf: &mut [u8], msg: &mut [u8], scores: &mut [u32; 8]) -> Run
-        requires { ⌜ Good self (length (now buf)) (length (now msg)) ⌝ }
-        ensures { λ r. ⌜ Good r (length (now (buf .exit))) (length (now (msg .exit))) ⌝ }
-    {
-        let w = self.window;
-        let at = w.at;
-        let end = w.end;
-        let stop = vectors::line_end(&buf[0..end], at);
-        if stop < end {
-            return self.taken(&buf[0..end], stop, msg, scores);
-        }
-        self.filled(buf, msg.len())
-    }
-
-    // Whether the input ended where the stream did.
-    fn is_whole(self) -> bool {
-        let w = self.window;
-        let s = self.stream;
-        s.is_done() && w.at == w.end
-    }
-}
-
-// Nothing says that the input ends: the turns are counted down from a number that no run uses up.
-fn run_all(buf: &mut [u8], msg: &mut [u8], scores: &mut [u32; 8]) -> Run {
-    let mut run = Run::start();
-    let mut turns = u64::MAX;
-    while turns > 0 && run.going {
-        run = run.step(buf, msg, scores);
-        turns -= 1;
-    }
-    run
+    let line = input.came;
+    let at = line.at;
+    let end = line.end;
+    let next = check.turn(&buf[at..end], input.line, input.was, input.stream, msg);
+    settle_at(next, input.was, input.stream, buf, line.start, scores);
+    next
 }
 
 fn print_scores(scores: &[u32; 8]) {
@@ -184,14 +86,26 @@ fn print_scores(scores: &[u32; 8]) {
     replay::print_score(b'V', scores[7], scores[3]);
 }
 
-fn main() {
-    let mut buf = [0u8; 524288];
-    let mut msg = [0u8; 262144];
+// Nothing says that the input ends: the turns are counted down from a number that no run uses up.
+fn run_all(buf: &mut [u8], msg: &mut [u8]) {
     let mut scores = [0u32; 8];
-    let run = run_all(&mut buf, &mut msg, &mut scores);
-    if run.is_whole() {
+    let mut input = Input::start();
+    let mut check = compare::none(true);
+    let mut turns = u64::MAX;
+    while turns > 0 && input.going && check.good {
+        input = input.next(buf, true);
+        check = after_turn(check, input, buf, msg, &mut scores);
+        turns -= 1;
+    }
+    if check.good && input.is_whole() {
         print_scores(&scores);
         return;
     }
-    replay::print_bad(run.line);
+    replay::print_bad(input.line);
+}
+
+fn main() {
+    let mut buf = [0u8; 524288];
+    let mut msg = [0u8; 262144];
+    run_all(&mut buf, &mut msg);
 }

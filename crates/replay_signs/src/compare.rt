@@ -1,10 +1,12 @@
 // Comparing what is read of a sign file with its answer, line by line.
+use replay::Input;
 use sign::Outcome;
 use vectors::Bytes;
 use vectors::Phase;
 use vectors::Stream;
 ghost use Prim.Native.Nat.{_≤_};
 ghost use lib.ListN.{length};
+ghost use Rattle.vectors.specs.Text.{Within};
 
 // The sign file that came last, and the case whose answer is read.
 // len: how many bytes the file has. seen: one came. line: where the case stands. row: the next font of its answer.
@@ -147,7 +149,7 @@ impl Check {
     }
 
     // After a line with that number, at a place of the stream.
-    pub fn turn(self, line: &[u8], number: u32, s: Stream, file: &mut [u8]) -> Check
+    fn turn(self, line: &[u8], number: u32, s: Stream, file: &mut [u8]) -> Check
         requires { ⌜ self .len ≤ length (now file) ⌝ }
         ensures { λ r. ⌜ r .len ≤ length (now (file .exit)) ⌝ }
     {
@@ -183,7 +185,7 @@ impl Check {
     }
 
     // After a line, between two places of the stream.
-    pub fn settled(self, was: Stream, then: Stream) -> Check
+    fn settled(self, was: Stream, then: Stream) -> Check
         ensures { λ r. ⌜ r .len ≤ self .len ⌝ }
     {
         if then.answers() {
@@ -196,6 +198,21 @@ impl Check {
             return self;
         }
         self
+    }
+
+    // After a turn of the input, whose bytes buf holds.
+    pub fn after_turn(self, input: Input, buf: &[u8], file: &mut [u8]) -> Check
+        requires { ⌜ Within (input .came) (length (now buf)) × (self .len ≤ length (now file)) ⌝ }
+        ensures { λ r. ⌜ r .len ≤ length (now (file .exit)) ⌝ }
+    {
+        if !input.read {
+            return self;
+        }
+        let line = input.came;
+        let at = line.at;
+        let end = line.end;
+        let check = self.turn(&buf[at..end], input.line, input.was, file);
+        check.settled(input.was, input.stream)
     }
 }
 

@@ -1,9 +1,0 @@
--- What holds of a place in the input from line to line.
-use Prim.Native.Nat.{ℕ, _≤_}
-use Rattle.replay_reading.specs.declared.Run.{Run}
-use Rattle.vectors.specs.Text.{Within}
-
--- the window is one of a buffer of b bytes, and the case's bytes fit into m
-pub record Good (r : Run) (b m : ℕ) : Type 0 where
-  pub inside : Within (r .window) b
-  pub fits : r .check .len ≤ m
