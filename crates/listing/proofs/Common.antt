@@ -2,6 +2,7 @@
 --     stayed, gone     what is had of each parameter at exit, and the law that it owes
 --     spelt, tells     the parameters' machine values, and that they have no others
 --     fits             so the numbers that they hold fit
+--     Entry, apart     what is had at entry; a callee is given what it asks of it, and both shared slices are kept
 --     Post             what a walk is to end in
 --     exits            it holds where the answer and the slice are what the listing says, and the tokens and both shared slices are had
 --     Asking R         `list`'s clauses, with R of the message asked at entry
@@ -18,16 +19,16 @@ use base.Fml.{Lft, Share, Fml, ftrue, flft}
 use prog.Memory.{Memory}
 use prog.Routine.{Routine}
 use prog.Wp.{Heap}
-use ghost.Atoms.{Atoms}
+use ghost.Atoms.{Atoms, sem}
 use contract.Monad.{Fun, Mono}
-use types.Kit.{Given, Item, ‵, _⊛_, ⋆, _$_, _∵_, !, qed, move, fjoin, suffices, frame, done}
+use types.Kit.{Given, Item, ‵, raw, _⊛_, ⋆, _$_, _∵_, !, qed, move, use1, use2, split, fsplit, fjoin, suffices, frame, done}
 use denote.RattleType.{RattleType, owns}
 use denote.Laws.{Is, Are, Ises, Spells, Tellss}
 use denote.Memory.{pointee}
 use denote.Plain.{uint-makes, uint-vals, uint-tells}
 use denote.Builtin.{u8, usize}
 use denote.Ref.{RefT, now}
-use denote.Slice.{sliceTy, sliceVal, MutSlice, ShrSlice, Room, finally, slice-vals, mut-slice-tells, shr-slice-tells}
+use denote.Slice.{sliceTy, sliceVal, MutSlice, ShrSlice, Room, finally, slice-vals, mut-slice-tells, shr-slice-tells, shr-slice-copy}
 use denote.Steps.{owned, nothing}
 use denote.Enum.Laws as EL
 use denote.Triple.Entry.{onEntry}
@@ -119,6 +120,18 @@ module _ (κs : Lifetimes) (a : Arg) where
 
   abbrev pub OwnR : Fml
   OwnR = MutSlice (named 2) (κs .1 .1 .0) T.the-row .own (a .1 .1 .1 .0) (slice-val (a .1 .1 .1 .0) ∷ [])
+
+module _ {M : Type 1} (𝓤 : URA M) (H : Heap 𝓤) (A : Atoms 𝓤) (W : Given 𝓤 H A) (κs : Lifetimes) (qs : Shares) (a : Arg) where
+  abbrev pub Entry : List (Item 𝓤)
+  Entry = Tokens 𝓤 κs qs ∷ ‵ (Owned κs a) ∷ []
+
+  -- what is had at entry gives what a callee of the same parameters asks, and beside it what is kept
+  pub apart : (P : SProp 𝓤) → ent 𝓤 (⋆ 𝓤 H A Entry) P → ent 𝓤 (⋆ 𝓤 H A Entry) (sep 𝓤 P (sep 𝓤 (sem 𝓤 H A (OwnM κs a)) (sem 𝓤 H A (OwnF κs a))))
+  apart P asked =
+      qed W Entry ∵ move ! (1 ∷ []) $ fsplit ! $ use1 W (‵ (OwnF κs a) ⊛ ‵ (OwnF κs a)) (shr-slice-copy 𝓤 H A W (named 0) (κs .0) u8 .twice (a .0) (slice-val (a .0) ∷ [])) $ split ! $
+      move ! (2 ∷ []) $ fsplit ! $ use1 W (‵ (OwnM κs a) ⊛ ‵ (OwnM κs a)) (shr-slice-copy 𝓤 H A W (named 1) (κs .1 .0) u8 .twice (a .1 .0) (slice-val (a .1 .0) ∷ [])) $ split ! $
+      -- [message; message; what the number and recs own; file; file; the tokens]
+      move ! (0 ∷ 2 ∷ []) $ fjoin ! $ move ! (2 ∷ 0 ∷ []) $ fjoin ! $ move ! (3 ∷ 0 ∷ []) $ use2 W (raw P) asked $ frame ! $ frame ! $ done !
 
 module _ {M : Type 1} (𝓤 : URA M) (H : Heap 𝓤) (A : Atoms 𝓤) (mem : Memory → SProp 𝓤) (run : Routine → Fun 𝓤) where
   abbrev pub Post : Lifetimes → Shares → Arg → Val → SProp 𝓤
