@@ -1,4 +1,20 @@
-/* Kambelohi: the message core of lamp boards. Link target/staticlib/libkambelohi.a (x86-64 Linux). */
+/*
+ * Kambelohi: the message core of lamp boards.
+ *
+ * Two calls: kambelohi_read says what stands at an offset of a MULTI message, kambelohi_list where the text of its pages stands
+ * on a sign. Link target/staticlib/libkambelohi.a (x86-64 Linux), which `rt staticlib kambelohi` writes. Of the C library it
+ * needs memcpy and memset, and nothing else.
+ *
+ * What is said here of answers and records follows from contracts that are proved of the code (crates/kambelohi/src/lib.rt), for
+ * any bytes, any lengths, and any offset or answer number. A call always returns, and keeps nothing.
+ *
+ * What the proofs take for granted, and no call can check, is that every pointer
+ * - is not null, even where its length is 0;
+ * - points to memory that may be read for the whole of its length and has been set, to whatever values, and that nobody else
+ *   writes before the call returns;
+ * - if it is that of the lent records: points to span_count of them, may also be written, is aligned as kambelohi_span asks
+ *   (2 bytes), and shares no byte with sign file or message, and nobody else reads the records before the call returns.
+ */
 #ifndef KAMBELOHI_H
 #define KAMBELOHI_H
 
@@ -9,24 +25,84 @@
 extern "C" {
 #endif
 
-/* Kinds of an answer of kambelohi_read. */
-enum { KAMBELOHI_SLICE = 0, KAMBELOHI_END = 1, KAMBELOHI_REFUSED = 2 };
+/* A longer sign file is refused with 1, a longer message with 2, a lent slice of fewer records with 4. No page has more of them. */
+enum { KAMBELOHI_SIGN_FILE_BYTES = 65535, KAMBELOHI_MESSAGE_BYTES = 2048, KAMBELOHI_RECORDS = 1400 };
 
 /*
- * What is read at an offset of a message.
+ * The refusals of both calls: number, start, length and detail. What is not said of a refusal is 0.
  *
- * kind KAMBELOHI_SLICE: start and length of the slice in message bytes, and its value as code and n: the place of the
- * value's case in enum Value of the Rust, from 1 to 22, and eight numbers; tests/FORMAT.md has the table.
- * kind KAMBELOHI_END: the offset is the message's length.
- * kind KAMBELOHI_REFUSED: number, start, length and detail of the refusal:
- *   2  the message is longer than 2,048 bytes
- *   3  the message is not well-formed UTF-8
- *   4  the offset is past the message or inside a character
- *   5  no known tag, or a stray bracket      (place of the slice)
- *   6  a bad parameter                       (place of the slice)
- *   7  a code point outside 1 to 255         (place of the slice)
- * What a kind does not use is 0.
+ * kambelohi_read has 2 to 7, in this order: 2 and 3 are of the whole message, 4 of the offset, 5 to 7 of the slice there.
+ *
+ * kambelohi_list has 1 to 4 in this order, for every answer number. Then page after page: 5 to 7 by position in the message,
+ * up to and with the page's [np]; then pass after pass (a pass ends at [tr], [np] or the end), 6 and 8 by position, 9, then
+ * 10 to 14 span by span, x before y, and 15.
+ *
+ * Place of the slice: start and length of the text or tag in the message. Place of the span: those of its record.
  */
+enum {
+    KAMBELOHI_SIGN_FILE = 1,        /* the sign file breaks a rule; start: the offset in it of the first record that fails,
+                                       0 if the file is too long or empty */
+    KAMBELOHI_TOO_LONG = 2,         /* the message is longer than KAMBELOHI_MESSAGE_BYTES */
+    KAMBELOHI_ILL_FORMED = 3,       /* the message is not well-formed UTF-8 */
+    KAMBELOHI_BAD_CALL = 4,         /* kambelohi_list: fewer than KAMBELOHI_RECORDS records are lent;
+                                       kambelohi_read: the offset is past the message or inside a character */
+    KAMBELOHI_BAD_TAG = 5,          /* no known tag, or a stray bracket; kambelohi_list: or a tag that the sign does not
+                                       support, or field 0; place of the slice */
+    KAMBELOHI_BAD_PARAMETER = 6,    /* a bad parameter; kambelohi_list: also one that this sign cannot follow, as a [tr] that
+                                       is not inside it; place of the slice */
+    KAMBELOHI_BAD_CODE = 7,         /* a text with a code point outside 1 to 255; place of the slice */
+    KAMBELOHI_TOO_MANY = 8,         /* the 256th line end or span since its number restarted; place of the slice */
+    KAMBELOHI_GOES_BACK = 9,        /* a justification that goes back; place of the span */
+    KAMBELOHI_NO_FONT = 10,         /* font not defined; detail: its number; place of the span */
+    KAMBELOHI_FONT_VERSION = 11,    /* the font's version id differs; place of the span */
+    KAMBELOHI_NO_CHARACTER = 12,    /* character not defined; detail: its code; place of the span */
+    KAMBELOHI_TOO_BIG = 13,         /* text exceeds the rectangle's width or height; place of the span */
+    KAMBELOHI_TOO_LOW = 14,         /* the rounded baseline is less than the font's height; place of the span */
+    KAMBELOHI_TOO_MANY_PASSES = 15  /* the page's 51st pass: 50 [tr] on a page */
+};
+
+/* ---- reading */
+
+/* Kinds of an answer of kambelohi_read. */
+enum {
+    KAMBELOHI_SLICE = 0,   /* a slice: start and length in message bytes; code and n say its value */
+    KAMBELOHI_END = 1,     /* the offset is the message's length */
+    KAMBELOHI_REFUSED = 2  /* number, start, length and detail of a refusal */
+};
+
+/*
+ * Values by their code, with what n holds, from n[0] on; the rest of n is 0.
+ *
+ * "option" is 0 0, or 1 and the number. A colour is 0 N 0 0, or 1 and red, green, blue; "option of colour" is five zeros, or 1
+ * and the colour. A text is its start and length in the message. Justifications are the numbers of NTCIP 1203.
+ */
+enum {
+    KAMBELOHI_COLOR_BACKGROUND = 1,           /* option of colour */
+    KAMBELOHI_COLOR_FOREGROUND = 2,           /* option of colour */
+    KAMBELOHI_COLOR_RECTANGLE = 3,            /* x y width height, colour */
+    KAMBELOHI_FIELD = 4,                      /* id, option of width */
+    KAMBELOHI_FLASH = 5,                      /* 0 on first, 1 off first; the two times in that order, each an option */
+    KAMBELOHI_FLASH_END = 6,                  /* none */
+    KAMBELOHI_FONT = 7,                       /* 0 0 0 0, or 1, number, option of version id */
+    KAMBELOHI_GRAPHIC = 8,                    /* number, then 0 0 0 0 0, or 1, x y, option of version id */
+    KAMBELOHI_HEXADECIMAL_CHARACTER = 9,      /* code */
+    KAMBELOHI_JUSTIFICATION_LINE = 10,        /* option of 1 to 5 */
+    KAMBELOHI_JUSTIFICATION_PAGE = 11,        /* option of 1 to 4 */
+    KAMBELOHI_MANUFACTURER_SPECIFIC = 12,     /* number, then 0 0 0, or 1 and a text */
+    KAMBELOHI_MANUFACTURER_SPECIFIC_END = 13, /* number, then 0 0 0, or 1 and a text */
+    KAMBELOHI_MOVING_TEXT = 14,               /* 0 circular, 1 linear; delay (0 for circular); 0 left, 1 right; width, pixels,
+                                                 deciseconds; text */
+    KAMBELOHI_NEW_LINE = 15,                  /* option of spacing */
+    KAMBELOHI_NEW_PAGE = 16,                  /* none */
+    KAMBELOHI_PAGE_BACKGROUND = 17,           /* option of colour */
+    KAMBELOHI_PAGE_TIME = 18,                 /* option of on, option of off */
+    KAMBELOHI_SPACING_CHARACTER = 19,         /* spacing */
+    KAMBELOHI_SPACING_CHARACTER_END = 20,     /* none */
+    KAMBELOHI_TEXT = 21,                      /* text; of [[ and ]] the first bracket: the slice's start, and 1 */
+    KAMBELOHI_TEXT_RECTANGLE = 22             /* x y width height, as in the tag */
+};
+
+/* What is read at an offset of a message. What a kind does not use is 0. */
 typedef struct {
     uint32_t kind;
     uint32_t number;
@@ -37,65 +113,45 @@ typedef struct {
     uint32_t n[8];
 } kambelohi_read_answer;
 
-/* Reads the slice at an offset of a message of any bytes and any length. It keeps nothing and never fails otherwise. */
+/*
+ * Reads the slice that starts at an offset of a message. From offset 0 on, the next slice is at start + length, also after a
+ * refusal from 5 to 7; joined, the slices are the message.
+ */
 kambelohi_read_answer kambelohi_read(const uint8_t *msg, size_t len, size_t offset);
 
+/* ---- listing */
+
 /* Kinds of an answer of kambelohi_list. */
-enum { KAMBELOHI_ON = 1, KAMBELOHI_OFF = 2, KAMBELOHI_LAST = 3, KAMBELOHI_LIST_REFUSED = 4 };
+enum {
+    KAMBELOHI_ON = 1,           /* a page that is on for duration tenths of a second; count records are written */
+    KAMBELOHI_OFF = 2,          /* a dark page of duration tenths */
+    KAMBELOHI_LAST = 3,         /* the message is over; count is the count of its answers, on and off */
+    KAMBELOHI_LIST_REFUSED = 4  /* number, start, length and detail of a refusal */
+};
 
-/* A lent slice must have this many records; a page never has more. */
-enum { KAMBELOHI_RECORDS = 1400 };
+/* Kinds of a span. */
+enum { KAMBELOHI_SPAN_TEXT = 0, KAMBELOHI_SPAN_HEXADECIMAL = 1, KAMBELOHI_SPAN_EMPTY_LINE = 2 };
 
-/*
- * A placed span.
- *
- * kind: 0 text, 1 hexadecimal character, 2 empty line. start and length in message bytes: of [[ and ]] the slice's start
- * and length 1; kind 1 covers its tag; kind 2 starts at its [nl] and has length 0. code: the character of kind 1, else 0.
- * x and y from 0, width and height in pixels. font, line and span: the font's number, the line's and the span's number
- * from 0. rect_x and rect_y from 1, as in [tr]; the rectangle's zero sizes are extended.
- */
+/* A placed span. */
 typedef struct {
-    uint16_t kind;
-    uint16_t start;
-    uint16_t length;
-    uint16_t code;
-    uint16_t x;
+    uint16_t kind;        /* a text, the character of an [hc], or an empty line */
+    uint16_t start;       /* start and length in message bytes: of [[ and ]] the slice's start and 1, of an [hc] its tag, */
+    uint16_t length;      /* of an empty line the start of its [nl] and 0 */
+    uint16_t code;        /* the character of an [hc], else 0 */
+    uint16_t x;           /* x and y from 0, width and height, in pixels */
     uint16_t y;
     uint16_t width;
     uint16_t height;
-    uint16_t font;
-    uint16_t line;
-    uint16_t span;
-    uint16_t rect_x;
+    uint16_t font;        /* the font's number */
+    uint16_t line;        /* the line's number, from 0 */
+    uint16_t span;        /* the span's number, from 0 */
+    uint16_t rect_x;      /* the text rectangle: x and y from 1, as in [tr]; sizes of 0 are extended to the sign's edge */
     uint16_t rect_y;
     uint16_t rect_width;
     uint16_t rect_height;
 } kambelohi_span;
 
-/*
- * An answer of a listing.
- *
- * kind KAMBELOHI_ON: a page that is on for duration tenths of a second; its count records are written.
- * kind KAMBELOHI_OFF: a dark page of duration tenths.
- * kind KAMBELOHI_LAST: the message is over; count is the count of its answers.
- * kind KAMBELOHI_LIST_REFUSED: number, start, length and detail of the refusal, in checking order:
- *    1  the sign file breaks a rule           (start: the offset of the record that fails; 0 if too long or empty)
- *    2  the message is longer than 2,048 bytes
- *    3  the message is not well-formed UTF-8
- *    4  the slice has fewer than KAMBELOHI_RECORDS records
- *    5  no known tag, or one that the sign does not support        (place of the slice)
- *    6  a bad parameter                                            (place of the slice)
- *    7  a code point outside 1 to 255                              (place of the slice)
- *    8  the 256th line end or span since its number restarted      (place of the slice)
- *    9  a justification that goes back                             (place of the span)
- *   10  font not defined, detail its number                        (place of the span)
- *   11  font version id differs                                    (place of the span)
- *   12  character not defined, detail its code                     (place of the span)
- *   13  text exceeds the rectangle                                 (place of the span)
- *   14  the baseline is less than the font's height                (place of the span)
- *   15  the page's 51st pass: 50 [tr] on a page
- * What a kind does not use is 0.
- */
+/* An answer of a listing. What a kind does not use is 0. */
 typedef struct {
     uint16_t kind;
     uint16_t duration;
@@ -107,10 +163,12 @@ typedef struct {
 } kambelohi_list_answer;
 
 /*
- * Lists answer number answer, from 0, of a message on a sign file, both of any bytes and any length. The records of an on
- * answer are written to the first elements of spans; all others stay as they were, and off, the end and a refusal write
- * nothing. From a refused answer on, every later answer is that refusal; past the end comes the end again. It keeps
- * nothing between calls and never fails otherwise.
+ * Lists answer number answer, from 0, of a message on a sign file. The records of an on answer are written to the first
+ * elements of spans; all others stay as they were, and off, the end and a refusal write nothing.
+ *
+ * Asked for answers 0, 1 and on, the end or a refusal comes after at most 2 * (number of [np] + 1) answers. On slices of
+ * KAMBELOHI_RECORDS records or more, each answer after a refused one is that refusal, and each after the end is the end
+ * again, with the same count. The place of a refusal other than 1 lies within the message.
  */
 kambelohi_list_answer kambelohi_list(const uint8_t *file, size_t file_len, const uint8_t *msg, size_t msg_len, size_t answer,
                                      kambelohi_span *spans, size_t span_count);
