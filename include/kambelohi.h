@@ -14,6 +14,11 @@
  *   writes before the call returns;
  * - if it is that of the lent records: points to span_count of them, may also be written, is aligned as kambelohi_span asks
  *   (2 bytes), and shares no byte with sign file or message, and nobody else reads the records before the call returns.
+ *
+ * Stack: a call takes at most the bytes below, arguments and return address included, in the archive for x86-64 as it is built
+ * today; tests/stack measures them. A short message takes as much as a long one. Not counted: what a thread takes to start, what
+ * a signal handler or an interrupt takes on the same stack, and what the loader takes to find memcpy and memset in a program
+ * that is not linked with -z now.
  */
 #ifndef KAMBELOHI_H
 #define KAMBELOHI_H
@@ -24,6 +29,9 @@
 #ifdef __cplusplus
 extern "C" {
 #endif
+
+/* Bytes of stack that a call takes at most. */
+enum { KAMBELOHI_READ_STACK = 512, KAMBELOHI_LIST_STACK = 155648 };
 
 /* A longer sign file is refused with 1, a longer message with 2, a lent slice of fewer records with 4. No page has more of them. */
 enum { KAMBELOHI_SIGN_FILE_BYTES = 65535, KAMBELOHI_MESSAGE_BYTES = 2048, KAMBELOHI_RECORDS = 1400 };
