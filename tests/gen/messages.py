@@ -13,6 +13,20 @@ CUT_INSIDE = ("[fl\u00e9]", "[FL\u20ac1]", "[mv\u00e9]", "[mvc\u00e9]", "[mvl\u0
               "A[nl][fl\u00ff]B")
 
 
+# the messages of docs/DIFFERENCES.md, "NTCIP 1203 v03 and the Rust"
+STANDARD = (
+    "[cb255] [cb256] [cb1,2,3] [cf10] [cf256] [cf1,2] [cf1,2,3] [pb10] [pb256] [pb1,2] [pb1,2,3] [cr1,1,0,0,9] [cr0,1,1,1,1]"
+    " [cr1,1,1,1] [cr1,1,1,1,1,2] [f] [f0] [f13] [f14] [f1,] [f1,0] [f1,255] [f1,256] [f1,1,2] [fx] [fe] [feedx] [fl] [flt] [flt99]"
+    " [flt100] [flt099] [flo1t2] [flt1t2] [fl1] [/fl] [/fl1] [fo] [fo0] [fo255] [fo256] [fo1,] [fo1,0ff] [fo1,00ff] [fo1,00FF]"
+    " [fo1,+0FF] [fo1,000ff] [fo,0000] [g0] [g256] [g1,1] [g1,1,1] [g1,0,1] [g1,1,1,] [g1,1,1,+0FF] [gx] [hc] [hc0] [hc41] [hc+41]"
+    " [hc000041] [hcFFFF] [hc10000] [hcd800] [jl] [jl0] [jl1] [jl5] [jl6] [jl+2] [jl02] [jp] [jp1] [jp4] [jp5] [jp+2] [jp02] [ms]"
+    " [ms0] [ms4294967295] [ms4294967296] [ms1,] [ms1,a,b] [ms1,\u20ac] [/ms] [/ms1] [/ms1,\u20ac] [mv] [mvcl1,1,1] [mvcl1,1,1,]"
+    " [mvcl0,0,0,a] [mvcl1,1,1,a,b] [mvcl1,1,1,\u20ac] [mvcl65536,1,1,a] [mvcl1,256,1,a] [mvcl1,1,256,a] [mvll1,1,1,a]"
+    " [mvl9l1,1,1,a] [mvl10l1,1,1,a] [nl] [nl0] [nl9] [nl10] [nl05] [nl+] [np] [np1] [pt] [pto] [pt0] [pt255o255] [pt256] [pto256]"
+    " [pt10,5] [sc] [sc0] [sc99] [sc100] [sc005] [sc+5] [/sc] [/sc1] [tr0,1,1,1] [tr1,0,1,1] [tr1,1,0,0] [tr1,1,1] [tr1,1,1,1,1]"
+    " [tr65535,65535,65535,65535] [tr65536,1,1,1] [NL] [PT5O] [FLT1O2] [MVCR1,1,1,a] [HCfF] [hcFf] [/SC] [/nl] [x] [] [ [["
+    " ]] ]").split(" ")
+
 def cased(rng, tag):
     """A tag, mostly as it is, else in capitals or in both letter cases."""
     way = rng.random()
