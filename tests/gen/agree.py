@@ -4,6 +4,8 @@ import re
 
 import streams
 
+# what document 01 gives where the Rust stops, but for [f0]
+INSTEAD = ("6", "8", "10", "11", "12", "13", "14")
 FIELD_0 = re.compile(rb"\[[fF]\+?0+(,[^\]]*)?\]")
 
 
@@ -40,11 +42,12 @@ def compare_listings(one, other, message):
         if a_words and b_words and a_words[0] == b_words[0] == "4" and same_refusal(a_words, b_words):
             continue
         for mine, others in ((a_words, b_words), (b_words, a_words)):
-            if mine and mine[0] in ("5", "6"):
+            if mine and mine[0] == "6":
                 return (told(mine), told(others))
-        for mine, others in ((a_words, b_words), (b_words, a_words)):
-            if refuses_field_0(mine, message):
+            if refuses_field_0(mine, message) and others and others[0] in ("4", "5"):
                 return ("passes over [f0], " + told(others), told(mine))
+            if mine and mine[0] == "5" and others and others[0] == "4" and others[1] in INSTEAD:
+                return (told(mine), told(others))
         return False
     return None
 
@@ -59,7 +62,7 @@ def compare_values(one, other):
         left, right = a.split(" "), b.split(" ")
         if len(left) > 3 and len(right) > 3 and left[:2] == right[:2]:
             for mine, others in ((left, right), (right, left)):
-                if mine[2:4] == ["0", "0"]:
+                if mine[2:4] == ["0", "0"] and others[2:4] == ["0", "6"]:
                     stops = ("value stops", "value " + " ".join(others[2:4]))
                     break
             else:

@@ -96,3 +96,12 @@ def sign_block(rng, room):
     maker = messages.Maker(rng, plan)
     for _ in range(min(count, room)):
         yield "L " + word(maker.message()), True
+
+
+def sums_block(rng, room):
+    """An S line of a board of wide letters and some cases on it, as (line, is a case)."""
+    plan = signs.wide_sign(rng)
+    yield "S " + word(plan.data()), False
+    maker = messages.SumsMaker(rng, plan)
+    for _ in range(min(rng.randint(10, 30), room)):
+        yield "L " + word(maker.message()), True

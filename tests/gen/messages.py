@@ -13,6 +13,20 @@ CUT_INSIDE = ("[fl\u00e9]", "[FL\u20ac1]", "[mv\u00e9]", "[mvc\u00e9]", "[mvl\u0
               "A[nl][fl\u00ff]B")
 
 
+# the messages of docs/DIFFERENCES.md, "NTCIP 1203 v03 and the Rust"
+STANDARD = (
+    "[cb255] [cb256] [cb1,2,3] [cf10] [cf256] [cf1,2] [cf1,2,3] [pb10] [pb256] [pb1,2] [pb1,2,3] [cr1,1,0,0,9] [cr0,1,1,1,1]"
+    " [cr1,1,1,1] [cr1,1,1,1,1,2] [f] [f0] [f13] [f14] [f1,] [f1,0] [f1,255] [f1,256] [f1,1,2] [fx] [fe] [feedx] [fl] [flt] [flt99]"
+    " [flt100] [flt099] [flo1t2] [flt1t2] [fl1] [/fl] [/fl1] [fo] [fo0] [fo255] [fo256] [fo1,] [fo1,0ff] [fo1,00ff] [fo1,00FF]"
+    " [fo1,+0FF] [fo1,000ff] [fo,0000] [g0] [g256] [g1,1] [g1,1,1] [g1,0,1] [g1,1,1,] [g1,1,1,+0FF] [gx] [hc] [hc0] [hc41] [hc+41]"
+    " [hc000041] [hcFFFF] [hc10000] [hcd800] [jl] [jl0] [jl1] [jl5] [jl6] [jl+2] [jl02] [jp] [jp1] [jp4] [jp5] [jp+2] [jp02] [ms]"
+    " [ms0] [ms4294967295] [ms4294967296] [ms1,] [ms1,a,b] [ms1,\u20ac] [/ms] [/ms1] [/ms1,\u20ac] [mv] [mvcl1,1,1] [mvcl1,1,1,]"
+    " [mvcl0,0,0,a] [mvcl1,1,1,a,b] [mvcl1,1,1,\u20ac] [mvcl65536,1,1,a] [mvcl1,256,1,a] [mvcl1,1,256,a] [mvll1,1,1,a]"
+    " [mvl9l1,1,1,a] [mvl10l1,1,1,a] [nl] [nl0] [nl9] [nl10] [nl05] [nl+] [np] [np1] [pt] [pto] [pt0] [pt255o255] [pt256] [pto256]"
+    " [pt10,5] [sc] [sc0] [sc99] [sc100] [sc005] [sc+5] [/sc] [/sc1] [tr0,1,1,1] [tr1,0,1,1] [tr1,1,0,0] [tr1,1,1] [tr1,1,1,1,1]"
+    " [tr65535,65535,65535,65535] [tr65536,1,1,1] [NL] [PT5O] [FLT1O2] [MVCR1,1,1,a] [HCfF] [hcFf] [/SC] [/nl] [x] [] [ [["
+    " ]] ]").split(" ")
+
 def cased(rng, tag):
     """A tag, mostly as it is, else in capitals or in both letter cases."""
     way = rng.random()
@@ -644,3 +658,70 @@ class Maker:
         styles = [name for name, _ in self.STYLES]
         weights = [weight for _, weight in self.STYLES]
         return getattr(self, self.rng.choices(styles, weights)[0])()
+
+
+class SumsMaker:
+    """Makes messages for a board of `signs.wide_sign`: runs whose widths, spacings or heights pass 65,535, or stay just below
+    it, with what 10, 11 or 12 refuses before the sum has passed it, after it, or in another group."""
+
+    LATER = 9  # a font that these boards lack
+
+    def __init__(self, rng, sign):
+        self.rng = rng
+        self.sign = sign
+
+    def fault(self):
+        """A span that 10, 11 or 12 refuses; now and then one that nothing refuses."""
+        rng = self.rng
+        way = rng.randint(0, 9)
+        if way < 3:
+            return "[fo%d]" % self.LATER + rng.choice(("A", "[[", "[hc41]", "B"))
+        if way < 6:
+            font = rng.choice(self.sign.fonts)
+            return "[fo%d,%04x]" % (font.number, font.version ^ rng.choice((1, 256, 0x8000))) + rng.choice(("A", "[[", "Z"))
+        if way < 9:
+            return rng.choice(("", "", "[fo]", "[fo1]", "[sc2]", "[jl]")) + rng.choice(("Z", "AZ", "]]", "[hc5a]", "[hc20ac]"))
+        return "[fo1,%04x]A" % self.sign.fonts[0].version
+
+    def across(self):
+        """Wide letters in one span or in several, up to some letters before or past 65,535 lamps."""
+        rng, font = self.rng, self.sign.fonts[0]
+        step = font.widths[65] + font.char_spacing
+        count = max(1, 65536 // step + rng.choice((-2, -1, 0, 1, 2, 3, 20)))
+        way = rng.randint(0, 3)
+        if way < 2:
+            return "A" * count
+        if way == 2:
+            cut = rng.randint(1, count)
+            return "A" * cut + rng.choice(("[fo]", "[/sc]", "[[", "[hc41]", "[jl]", "[pt]")) + "A" * (count - cut)
+        part = max(1, count // rng.choice((3, 5, 10)))
+        return rng.choice(("[fo]", "[jl]", "[hc41]")).join(["A" * part] * (count // part + 1))
+
+    def spaced(self):
+        """Narrow letters with wide spacings between spans whose numbers start again."""
+        return "[fo3]" + "[jl]A" * self.rng.choice((256, 257, 258, 259, 300))
+
+    def down(self):
+        """High lines, up to some lines before or past 65,535 lamps."""
+        rng, font = self.rng, self.sign.fonts[1]
+        step = font.height + (0 if self.sign.char_height else 255)
+        count = min(254, 65536 // step + rng.choice((-2, -1, 0, 1, 2, 20)))
+        return "[fo2]" + "[nl]" * count + rng.choice(("A", "", "[fo3][nl]", "[fo3]A"))
+
+    def message(self):
+        rng = self.rng
+        run = rng.choices((self.across, self.spaced, self.down), (8, 1, 2))[0]()
+        way = rng.random()
+        if way < 0.6:
+            parts = (run, self.fault())
+        elif way < 0.7:
+            parts = (run, self.fault(), self.fault())
+        elif way < 0.8:
+            parts = (run,)
+        elif way < 0.86:
+            parts = (self.fault(), run)
+        elif way < 0.95:
+            parts = (run, rng.choice(("[nl]", "[jl4]", "[jp4]", "[tr1,1,0,0]", "[np]")), self.fault())
+        else:
+            parts = ("A", rng.choice(("[nl]", "[jl4]", "[tr1,1,0,0]", "[np]")), run, self.fault())
+        return "".join(parts).encode()

@@ -167,6 +167,21 @@ def make_sign(rng, matrix=None, small=False, wrong_version=False):
                     rng.choice((2, 2, 3, 3, 4)), on, off, make_tags(rng), fonts)
 
 
+def wide_sign(rng):
+    """A sign whose texts pass 65,535 lamps within a message: font 1 has wide letters, font 2 is high, font 3 narrow."""
+    width = rng.choice((200, 254, 255))
+    spacing = rng.choice((0, 3, 99, 255))
+    wide = [(65, width, bytes(rng.getrandbits(8) for _ in range((width + 7) // 8))), (66, 255, bytes(32)), (91, 120, bytes(15))]
+    thin = [(65, rng.choice((0, 1)), b""), (91, 1, b"")]
+    high = rng.choice((200, 255))
+    fonts = [FontPlan(1, 1, spacing, rng.choice((0, 255)), wide),
+             FontPlan(2, high, rng.choice((0, 255)), 255, [(code, size, bytes((size * high + 7) // 8)) for code, size, _ in thin]),
+             FontPlan(3, 1, 255, 0, [(code, size, bytes(size)) for code, size, _ in thin])]
+    size = rng.choice(((4096, 4096), (4096, 4096), (500, 300)))
+    char_height = rng.choice((0, 0, 0, 1))
+    return SignPlan(*size, 0, char_height, 1, rng.choice((2, 3, 4)), rng.choice((2, 3, 4)), 30, rng.choice((0, 5)), ALL_NINE, fonts)
+
+
 def full_size_file(rng, size=65535):
     """A right sign file of exactly this many bytes."""
     data = record(1, SignPlan(50, 24, 0, 0, 1, 2, 2, 30, 0, ALL_NINE, []).configuration())

@@ -58,7 +58,7 @@ abbrev pub samePage : Entry → Entry → Bool
 samePage r e = eqb (r .state .«just_page») (e .state .«just_page»)
 
 -- "The spacing due before a span that isn't its group's first is its own [sc] value if one holds, otherwise half the sum of the spacings of the
--- span before it and its own, rounded up" (`char_spacing_between`)
+-- span before it and its own, rounded up" (`char_spacing_between`); as render.rs has it, NTCIP 1203, fontCharSpacing, says "of the two fonts"
 unfoldable pub due : Meter → Entry → Entry → ℕ
 due m p e = given (e .state .«char_spacing») (halfUp (m .spacing p + m .spacing e))
 
@@ -111,7 +111,8 @@ abbrev pub lines : Meter → List Line → List Entry → List Line
 lines m ls [] = ls
 lines m ls (e ∷ es) = lines m (addLine (e .state .line) (lineOf m e) ls) es
 
--- the spacing above a line: none on a sign with a character height
+-- the spacing above a line: none on a sign with a character height; else NTCIP 1203, fontLineSpacing, as render.rs has it: "the average of the 2
+-- line spacings of each line, rounded up to the nearest whole pixel"
 unfoldable pub lineGap : ℕ → Line → Line → ℕ
 lineGap zero p l = given (l .lineSpacing) (halfUp (p .fontSpacing + l .fontSpacing))
 lineGap (suc c) p l = 0

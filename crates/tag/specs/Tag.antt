@@ -20,7 +20,7 @@ use Rattle.param.specs.Param.{number, optional, xy, rectangle, color, readOptio
 use Rattle.tag.specs.declared.Parsed.{Parsed}
 use Rattle.tag.specs.declared.Parsed.the-variants.{Good, Bad}
 
--- [nl], [nln]: "at most one byte after its name"
+-- [nl], [nln]: "at most one byte after its name"; as multi.rs says, NTCIP 1203 has "a single digit parameter for "nl" tag (0-9)"
 unfoldable pub newLine : List ℕ → Parsed
 newLine p =
     pick (eqb (length p) 0) (Good (NewLine None))
@@ -62,7 +62,7 @@ pageBackground p = pick (eqb (length p) 0) (Good (PageBackground NoColor)) (colo
 unfoldable pub colorForeground : List ℕ → Parsed
 colorForeground p = pick (eqb (length p) 0) (Good (ColorForeground NoColor)) (color (colorOf p) Bad λ c. Good (ColorForeground (SomeColor c)))
 
--- [cb], [cbn]
+-- [cb], [cbn]: 8 bits; as multi.rs says, NTCIP 1203 has "a numeric value between 0 and 999"
 unfoldable pub colorBackground : List ℕ → Parsed
 colorBackground p = pick (eqb (length p) 0) (Good (ColorBackground NoColor)) (number (readNumber 10 255 p) Bad λ n. Good (ColorBackground (SomeColor (Legacy n))))
 
@@ -92,7 +92,7 @@ textRectangle p = rectangle (lastFour p) Bad λ r. Good (TextRectangle r)
 unfoldable pub spacingCharacter : List ℕ → Parsed
 spacingCharacter p = number (readNumber 10 99 p) Bad λ n. Good (SpacingCharacter n)
 
--- [hcx]: 16 bits in hexadecimal
+-- [hcx]: 16 bits in hexadecimal; multi.rs says "May be 1 to 4 hexadecimal digits", and takes a + and zeros in front of them, too
 unfoldable pub hexadecimalCharacter : List ℕ → Parsed
 hexadecimalCharacter p = number (readNumber 16 65535 p) Bad λ n. Good (HexadecimalCharacter n)
 

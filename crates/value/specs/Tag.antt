@@ -37,7 +37,7 @@ tagOf SpacingCharacterEnd = Some 13
 tagOf (Text p) = None
 tagOf (TextRectangle r) = Some 27
 
--- the bit is set in the sign's supported tags
+-- the bit is set in the sign's supported tags, NTCIP 1203's `dmsSupportedMultiTags`
 abbrev pub hasTag : ℕ → OptTag → Bool
 hasTag tags (Some k) = pick (ltb k 32) (eqb (tags / 2 ^ k % 2) 1) false
 hasTag tags None = false

@@ -2,6 +2,7 @@
 //! a case stream.
 
 use crate::kambelohi::{ListAnswer, Span, list};
+use crate::stops::{EVERY, Why};
 use kambelohi_oracle::{Answer, Record, listing};
 use std::collections::BTreeMap;
 
@@ -54,7 +55,7 @@ pub struct Spread {
     pub records: usize,
     pub ends: usize,
     pub refusals: BTreeMap<u16, usize>,
-    pub stops: BTreeMap<u16, usize>,
+    pub stops: BTreeMap<(Why, u16), usize>,
     pub field_0: usize,
     pub not_comparable: usize,
 }
@@ -65,8 +66,8 @@ impl Spread {
         for (number, n) in &self.refusals {
             println!("refusal {number:2}: {n}");
         }
-        for (number, n) in &self.stops {
-            println!("the Rust stops, here {number:2}: {n}");
+        for ((why, number), n) in &self.stops {
+            println!("the Rust stops, {why:?}, here {number:2}: {n}");
         }
         println!("[f0], here 5 by position: {}", self.field_0);
         println!("version ids not the Rust's: {}", self.not_comparable);
@@ -74,6 +75,26 @@ impl Spread {
             "{} listings, {} answers, {} records: none differs",
             self.listings, self.answers, self.records
         );
+    }
+
+    /// What does not occur: a refusal that the Rust gives too, or one that
+    /// comes where it stops
+    pub fn missing(&self) -> Vec<String> {
+        let shared = [1, 2, 3, 5, 6, 7, 9, 10, 11, 12, 13, 15];
+        let refused = shared.iter().filter(|n| !self.refusals.contains_key(n));
+        let mut all: Vec<_> = refused.map(|n| format!("refusal {n}")).collect();
+        for (why, numbers) in EVERY {
+            let gone = |n: &&u16| !self.stops.contains_key(&(why, **n));
+            let gone = numbers.iter().filter(gone);
+            all.extend(gone.map(|n| format!("a stop, {why:?}, here {n}")));
+        }
+        if self.ends == 0 {
+            all.push("an end".to_string());
+        }
+        if self.field_0 == 0 {
+            all.push("[f0]".to_string());
+        }
+        all
     }
 }
 
@@ -156,7 +177,9 @@ pub fn compare(
     for (number, want) in wanted.iter().enumerate() {
         spread.answers += 1;
         let got = ask(sign, msg, number, slice)?;
-        if got.kind == 4
+        // the Rust's scan passes over it; the page never comes
+        if matches!(want, Answer::Refused(_) | Answer::Stop(_))
+            && got.kind == 4
             && got.number == 5
             && msg
                 .get(got.start.into()..(got.start + got.length).into())
@@ -188,10 +211,10 @@ pub fn compare(
                     r.detail as u16,
                 )
             }
-            Answer::Stop(_) => {
-                *spread.stops.entry(got.number).or_default() += 1;
-                got.kind == 4 && matches!(got.number, 5 | 6 | 8 | 12 | 13 | 14)
-            }
+            Answer::Stop(said) => Why::of(said).is_some_and(|why| {
+                *spread.stops.entry((why, got.number)).or_default() += 1;
+                why.gives(&got, msg)
+            }),
             Answer::NotComparable => {
                 spread.not_comparable += 1;
                 true

@@ -5,10 +5,15 @@
 //! against the rules for offsets. For each L line: every answer of the real
 //! `Pages` with its records against `kambelohi_list` on a patterned slice.
 //! The first difference ends the run with 1, and its case is written to the
-//! file compare-failed.txt. `--progress` tells how far the run is.
+//! file compare-failed.txt. Standard input is one case stream or several, one
+//! after the other; one that is cut or damaged ends the run with 2, and so does
+//! a run without a V or L line. `--progress` tells how far the run is. With
+//! `--every` the run ends with 1 where a value, a refusal or a stop of the Rust
+//! that can come does not.
 
 mod kambelohi;
 mod listings;
+mod stops;
 
 use kambelohi::{ReadAnswer, Span, read};
 use kambelohi_oracle::values;
@@ -25,6 +30,25 @@ struct Counts {
     offsets: usize,
     stops: usize,
     codes: BTreeMap<(u32, u32), usize>,
+    whole: BTreeMap<u8, usize>,
+}
+
+impl Counts {
+    /// What does not occur: a value, a refused one, or a message refused whole
+    fn missing(&self) -> Vec<String> {
+        let values = (1..=22).map(|code| (code, 0));
+        let refused = [5, 6, 7].into_iter().map(|number| (0, number));
+        let gone = values.chain(refused).filter(|k| !self.codes.contains_key(k));
+        let mut all: Vec<_> = gone
+            .map(|(code, number)| format!("code {code} refusal {number}"))
+            .collect();
+        let gone = [2, 3].into_iter().filter(|n| !self.whole.contains_key(n));
+        all.extend(gone.map(|n| format!("a message refused with {n}")));
+        if self.stops == 0 {
+            all.push("a value where the Rust stops".to_string());
+        }
+        all
+    }
 }
 
 fn decode(hex: &str) -> Option<Vec<u8>> {
@@ -73,6 +97,7 @@ fn compare(msg: &[u8], counts: &mut Counts) -> Result<(), String> {
     let items = match values(msg) {
         Ok(items) => items,
         Err(r) => {
+            *counts.whole.entry(r.number).or_default() += 1;
             for offset in [0, msg.len(), msg.len() + 1] {
                 counts.offsets += 1;
                 expect(msg, offset, refused(r.number.into(), 0, 0))?;
@@ -111,6 +136,8 @@ fn compare(msg: &[u8], counts: &mut Counts) -> Result<(), String> {
 
 /// A stream of the one case that differs
 fn save(sign: Option<&str>, line: &str) {
+    // a V line's answer does not depend on it
+    let sign = sign.filter(|_| line.starts_with('L'));
     let sign = sign.map_or(String::new(), |s| format!("S {s}\n"));
     let text = format!("kambelohi cases 1\n{sign}{line}\nend 1\n");
     if let Err(e) = std::fs::write("compare-failed.txt", text) {
@@ -121,6 +148,8 @@ fn save(sign: Option<&str>, line: &str) {
 /// Where a run stands
 #[derive(Default)]
 struct Run {
+    /// The cases of the stream at hand; none between streams
+    cases: Option<usize>,
     counts: Counts,
     spread: listings::Spread,
     hex: Option<String>,
@@ -128,9 +157,22 @@ struct Run {
     slice: Vec<Span>,
 }
 
+/// What ends a run before its time
+enum Fault {
+    /// An answer differs
+    Differs(String),
+    /// The stream is not as FORMAT.md has it
+    Stream(String),
+}
+
+impl Fault {
+    fn stream(said: &str) -> Self {
+        Fault::Stream(said.to_string())
+    }
+}
+
 impl Run {
     fn list(&mut self, msg: &[u8]) -> Result<(), String> {
-        // A sign file that an S line has not given is empty.
         self.slice.resize(1403, Span::default());
         let n = 1400 + self.spread.listings % 4;
         let slice = &mut self.slice[..n];
@@ -141,63 +183,129 @@ impl Run {
         Ok(())
     }
 
-    fn line(&mut self, line: &str) -> Result<(), String> {
-        let bytes = |hex: &str| decode(hex).ok_or("bad bytes".to_string());
-        if let Some(hex) = line.strip_prefix("V ") {
-            compare(&bytes(hex)?, &mut self.counts)?;
-        } else if let Some(hex) = line.strip_prefix("S ") {
-            self.sign = bytes(hex)?;
+    /// Compare a case
+    fn case(&mut self, line: &str) -> Result<(), Fault> {
+        let (kind, hex) = line.split_once(' ').unwrap_or((line, "-"));
+        if matches!(kind, "I" | "L") && self.hex.is_none() {
+            return Err(Fault::stream("no sign file before it"));
+        }
+        match (kind, decode(hex)) {
+            ("V", Some(msg)) => compare(&msg, &mut self.counts),
+            ("L", Some(msg)) => self.list(&msg),
+            // numbers and version ids, which no call gives alone
+            ("D" | "X" | "Q" | "I", _) => Ok(()),
+            _ => return Err(Fault::stream("no line of a case stream")),
+        }
+        .map_err(Fault::Differs)
+    }
+
+    /// Take a line of a stream
+    fn line(&mut self, line: &str) -> Result<(), Fault> {
+        let Some(cases) = self.cases else {
+            if line != "kambelohi cases 1" {
+                return Err(Fault::stream("not the head of a case stream"));
+            }
+            self.cases = Some(0);
+            return Ok(());
+        };
+        if let Some(hex) = line.strip_prefix("S ") {
+            self.sign = decode(hex).ok_or(Fault::stream("bad bytes"))?;
             self.hex = Some(hex.to_string());
-        } else if let Some(hex) = line.strip_prefix("L ") {
-            self.list(&bytes(hex)?)?;
+            return Ok(());
+        }
+        if line.starts_with("end ") {
+            if line != format!("end {cases}") {
+                return Err(Fault::stream("not the count of its cases"));
+            }
+            (self.cases, self.hex) = (None, None);
+            return Ok(());
+        }
+        self.cases = Some(cases + 1);
+        self.case(line)
+    }
+
+    /// Take the lines of standard input
+    fn lines(&mut self, progress: bool) -> Result<(), Fault> {
+        for (i, line) in std::io::stdin().lock().lines().enumerate() {
+            let line = line.map_err(|e| Fault::Stream(e.to_string()))?;
+            let told = |e| format!("line {}: {line}\n{e}", i + 1);
+            match self.line(&line) {
+                Ok(()) => (),
+                Err(Fault::Stream(e)) => return Err(Fault::Stream(told(e))),
+                Err(Fault::Differs(e)) => {
+                    save(self.hex.as_deref(), &line);
+                    return Err(Fault::Differs(told(e)));
+                }
+            }
+            if progress && i % 10_000 == 0 {
+                eprint!("\r{} listings", self.spread.listings);
+            }
+        }
+        if self.cases.is_some() {
+            return Err(Fault::stream("the stream has no end"));
+        }
+        if self.counts.messages + self.spread.listings == 0 {
+            return Err(Fault::stream("no V or L line"));
         }
         Ok(())
     }
-}
 
-fn run(progress: bool) -> Result<Run, String> {
-    let mut run = Run::default();
-    for (i, line) in std::io::stdin().lock().lines().enumerate() {
-        let line = line.map_err(|e| format!("line {}: {e}", i + 1))?;
-        if let Err(e) = run.line(&line) {
-            save(run.hex.as_deref(), &line);
-            return Err(format!("line {}: {line}\n{e}", i + 1));
+    fn print(&self) {
+        let c = &self.counts;
+        if c.messages > 0 {
+            for ((code, number), n) in &c.codes {
+                println!("code {code:2} refusal {number}: {n}");
+            }
+            println!(
+                "{} messages, {} slices, {} other offsets: none differs \
+                 ({} where the Rust stops)",
+                c.messages, c.slices, c.offsets, c.stops
+            );
         }
-        if progress && i % 10_000 == 0 {
-            eprint!("\r{} listings", run.spread.listings);
+        if self.spread.listings > 0 {
+            self.spread.print();
         }
     }
-    if progress {
-        eprintln!();
+
+    /// What does not occur, of the cases that came
+    fn missing(&self) -> Vec<String> {
+        let mut all = Vec::new();
+        if self.counts.messages > 0 {
+            all.extend(self.counts.missing());
+        }
+        if self.spread.listings > 0 {
+            all.extend(self.spread.missing());
+        }
+        all
     }
-    Ok(run)
 }
 
 fn main() {
-    let progress = std::env::args().any(|a| a == "--progress");
-    let run = match run(progress) {
-        Ok(run) => run,
-        Err(e) => {
-            eprintln!("{e}");
-            std::process::exit(1);
+    let wants = |name: &str| std::env::args().any(|a| a == name);
+    let mut run = Run::default();
+    let fault = run.lines(wants("--progress"));
+    if wants("--progress") {
+        eprintln!();
+    }
+    let status = match fault {
+        Err(Fault::Stream(e)) => {
+            eprintln!("compare: {e}");
+            2
+        }
+        Err(Fault::Differs(e)) => {
+            eprintln!("compare: {e}");
+            1
+        }
+        Ok(()) => {
+            run.print();
+            let missing = run.missing();
+            if wants("--every") && !missing.is_empty() {
+                eprintln!("compare: none has {}", missing.join(", "));
+                1
+            } else {
+                0
+            }
         }
     };
-    let c = &run.counts;
-    if c.messages + run.spread.listings == 0 {
-        eprintln!("compare: no V or L line on standard input");
-        std::process::exit(2);
-    }
-    if c.messages > 0 {
-        for ((code, number), n) in &c.codes {
-            println!("code {code:2} refusal {number}: {n}");
-        }
-        println!(
-            "{} messages, {} slices, {} other offsets: none differs \
-             ({} where the Rust stops)",
-            c.messages, c.slices, c.offsets, c.stops
-        );
-    }
-    if run.spread.listings > 0 {
-        run.spread.print();
-    }
+    std::process::exit(status);
 }

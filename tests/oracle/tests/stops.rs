@@ -66,6 +66,12 @@ fn sums_across() {
     stops(&wide(), &two, "render.rs:809: attempt to add");
     let bracket = format!("{}[[", "A".repeat(129));
     stops(&wide(), &bracket, "render.rs:801: attempt to add");
+    // before what 10 and 11 refuse; where that comes first, no stop
+    let run = "A".repeat(130);
+    for later in ["[fo9]B", "[fo1,0001]A", "[fo]C"] {
+        stops(&wide(), &(run.clone() + later), "mod.rs:237: attempt");
+    }
+    assert_eq!(wide().refused(&format!("[fo9]B[fo]{run}")), "4 10 - - 9");
     // both together, where span numbers restart
     let restarted =
         "A".repeat(44) + &format!("[jl]{}", "A".repeat(43)).repeat(2);
@@ -81,6 +87,8 @@ fn sums_down() {
         &(lines.clone() + "A"),
         "render.rs:904: attempt to add",
     );
+    // every font is looked up before
+    assert_eq!(wide().refused(&(lines.clone() + "[fo9]A")), "4 10 - - 9");
     let mut board = wide();
     board.fonts.push(([2, 1, 0, 0], vec![]));
     let lower = lines + "[fo2][nl]";
