@@ -58,31 +58,31 @@ closes-stop : (f : Option Refusal) (l : List Event) → closes (stopIf f l) ≤ 
 closes-stop none l = omega arith
 closes-stop (some r) l = omega arith
 
-module _ (msg : List ℕ) (s : Config) (it : Item) (its : List Item) (k : ℕ → ℕ → RenderState → Bool → List Entry → List Event)
+module _ (s : Config) (it : Item) (its : List Item) (k : ℕ → ℕ → RenderState → Bool → List Entry → List Event)
     (hyp : (a b : ℕ) (st : RenderState) (bl : Bool) (acc : List Entry) → closes (k a b st bl acc) ≤ pageBreaks its) where
-  follow-closes : (a b : ℕ) (st : RenderState) (acc : List Entry) (t : Step) → Fair msg s st it t → closes (follow s a b st acc its k t) ≤ pageBreaks (it ∷ its)
+  follow-closes : (a b : ℕ) (st : RenderState) (acc : List Entry) (t : Step) → Fair s st it t → closes (follow s a b st acc its k t) ≤ pageBreaks (it ∷ its)
   follow-closes a b st acc (Refuse r) f = omega arith
   follow-closes a b st acc (Go st′ bl) f = omega (arith, hyp a b st′ bl acc)
   follow-closes a b st acc (Emit e st′ bl) f = omega (arith, hyp a b st′ bl (acc ++ (e ∷ [])))
   follow-closes a b st acc (Cut st′) f = omega (arith, hyp a b st′ true [])
   follow-closes a b st acc Turn f =
       let c : Scan = scan s a b its in
-      let e : breaks (roleIn (it .says)) ≡ 1 = ap breaks (f .2) in
+      let e : breaks (roleIn (it .says)) ≡ 1 = ap breaks (f .1) in
       omega (arith, closes-stop (c .fault) (k (c .on) (c .off) (newPage s st) true []), hyp (c .on) (c .off) (newPage s st) true [])
 
-read-closes : (msg : List ℕ) (s : Config) (its : List Item) (a b : ℕ) (st : RenderState) (bl : Bool) (acc : List Entry) → Honest its
+read-closes : (s : Config) (its : List Item) (a b : ℕ) (st : RenderState) (bl : Bool) (acc : List Entry) → Honest its
     → closes (read s its a b st bl acc) ≤ pageBreaks its
-read-closes msg s [] a b st bl acc h = omega arith
-read-closes msg s (it ∷ its) a b st bl acc h =
-    follow-closes msg s it its (read s its) (λ a b st bl acc. read-closes msg s its a b st bl acc (h .1)) a b st acc (step s st bl it)
-    (step-is-fair msg s st bl it (h .0))
+read-closes s [] a b st bl acc h = omega arith
+read-closes s (it ∷ its) a b st bl acc h =
+    follow-closes s it its (read s its) (λ a b st bl acc. read-closes s its a b st bl acc (h .1)) a b st acc (step s st bl it)
+    (step-is-fair s st bl it (h .0))
 
 pages-le : (msg : List ℕ) (s : Board) → length (pages s (items msg)) ≤ 2 * suc (pageBreaks (items msg))
 unfolding pages events
 pages-le msg s =
     let o : Scan = opening (s .config) (items msg) in
     let l : List Event = read (s .config) (items msg) (o .on) (o .off) (start (s .config)) true [] in
-    omega (arith, walk-le s (stopIf (o .fault) l) (o .on) (o .off) [] 0, closes-stop (o .fault) l, read-closes msg (s .config) (items msg) (o .on) (o .off) (start (s .config)) true [] (items-honest msg))
+    omega (arith, walk-le s (stopIf (o .fault) l) (o .on) (o .off) [] 0, closes-stop (o .fault) l, read-closes (s .config) (items msg) (o .on) (o .off) (start (s .config)) true [] (items-honest msg))
 
 -- ---- the first answer that stops
 
@@ -137,7 +137,7 @@ always-stops file msg lent = look (signFile file) refl
         let n : ℕ = length (pages (boardOf msg c fs) (items msg)) in
         stop-at file msg lent n _ (pages-le msg (boardOf msg c fs))
         (rw (answer-on file msg n (lent n) (Accepted c fs) e)
-        (accepted-result msg n (length (lent n)) (λ r. Stops (r .answer)) c fs (λ k. tt) (λ p q. numbered-stops 0 (pages (boardOf msg c fs) (items msg)))))
+        (accepted-result msg n (length (lent n)) (λ r. Stops (r .answer)) c fs (λ k _. tt) (λ p q. numbered-stops 0 (pages (boardOf msg c fs) (items msg)))))
 
 -- ---- "From a refused answer on, every later answer is that refusal"
 

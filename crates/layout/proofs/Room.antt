@@ -23,7 +23,7 @@ use Rattle.layout.specs.Read.{step, Scan, scan, Event, pass, close, stop
 use Rattle.layout.specs.Listing.{Page, on, off, refused, stopAt, offs, passStop, walk, pages, Result, numbered, resultOn, result, listing, after}
 use Rattle.layout.proofs.Cover.{Fair, step-is-fair, Honest, entries}
 use Rattle.layout.proofs.Checks.{any-result}
-use Rattle.layout.proofs.Items.{okays, items-honest, items-few}
+use Rattle.layout.proofs.Items.{okays, reads-okay, items-honest, items-few}
 
 -- ---- the spans of a message
 
@@ -31,32 +31,32 @@ entries-stop : (f : Option Refusal) (l : List Event) → length (entries (stopIf
 entries-stop none l = omega arith
 entries-stop (some r) l = omega arith
 
-module _ (msg : List ℕ) (s : Config) (it : Item) (its : List Item) (k : ℕ → ℕ → RenderState → Bool → List Entry → List Event)
+module _ (s : Config) (it : Item) (its : List Item) (k : ℕ → ℕ → RenderState → Bool → List Entry → List Event)
     (hyp : (a b : ℕ) (st : RenderState) (bl : Bool) (acc : List Entry) → length (entries (k a b st bl acc)) ≤ length acc + okays its) where
-  follow-few : (a b : ℕ) (st : RenderState) (acc : List Entry) (t : Step) → Fair msg s st it t
+  follow-few : (a b : ℕ) (st : RenderState) (acc : List Entry) (t : Step) → Fair s st it t
       → length (entries (follow s a b st acc its k t)) ≤ length acc + okays (it ∷ its)
   follow-few a b st acc (Refuse r) f = omega arith
   follow-few a b st acc (Go st′ bl) f = omega (arith, hyp a b st′ bl acc)
-  follow-few a b st acc (Emit e st′ bl) f = omega (arith, hyp a b st′ bl (acc ++ (e ∷ [])), length-append acc (e ∷ []), f .5)
+  follow-few a b st acc (Emit e st′ bl) f = omega (arith, hyp a b st′ bl (acc ++ (e ∷ [])), length-append acc (e ∷ []), reads-okay (it .says) (f .0 .reads))
   follow-few a b st acc (Cut st′) f = omega (arith, hyp a b st′ true [], length-append acc (entries (k a b st′ true [])))
   follow-few a b st acc Turn f =
       let c : Scan = scan s a b its in
       let l : List Event = k (c .on) (c .off) (newPage s st) true [] in
       omega (arith, length-append acc (entries (stopIf (c .fault) l)), entries-stop (c .fault) l, hyp (c .on) (c .off) (newPage s st) true [])
 
-read-few : (msg : List ℕ) (s : Config) (its : List Item) (a b : ℕ) (st : RenderState) (bl : Bool) (acc : List Entry) → Honest its
+read-few : (s : Config) (its : List Item) (a b : ℕ) (st : RenderState) (bl : Bool) (acc : List Entry) → Honest its
     → length (entries (read s its a b st bl acc)) ≤ length acc + okays its
-read-few msg s [] a b st bl acc h = omega (arith, length-append acc [])
-read-few msg s (it ∷ its) a b st bl acc h =
-    follow-few msg s it its (read s its) (λ a b st bl acc. read-few msg s its a b st bl acc (h .1)) a b st acc (step s st bl it)
-    (step-is-fair msg s st bl it (h .0))
+read-few s [] a b st bl acc h = omega (arith, length-append acc [])
+read-few s (it ∷ its) a b st bl acc h =
+    follow-few s it its (read s its) (λ a b st bl acc. read-few s its a b st bl acc (h .1)) a b st acc (step s st bl it)
+    (step-is-fair s st bl it (h .0))
 
 events-few : (msg : List ℕ) (s : Config) → length (entries (events s (items msg))) ≤ okays (items msg)
 unfolding events
 events-few msg s =
     let o : Scan = opening s (items msg) in
     let l : List Event = read s (items msg) (o .on) (o .off) (start s) true [] in
-    omega (arith, entries-stop (o .fault) l, read-few msg s (items msg) (o .on) (o .off) (start s) true [] (items-honest msg))
+    omega (arith, entries-stop (o .fault) l, read-few s (items msg) (o .on) (o .off) (start s) true [] (items-honest msg))
 
 -- ---- the records of a page
 
