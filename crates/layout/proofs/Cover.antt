@@ -26,7 +26,7 @@ use Rattle.layout.specs.Types.{Item, given}
 use Rattle.layout.specs.Demand.{In, here, there, Role, text, hexadecimal, rectangle, pageJust, newPage as pageRole, other, roleOf, roleIn, Reads, rectAfter, justAfter, printedBy}
 use Rattle.layout.specs.declared.Step.{Step}
 use Rattle.layout.specs.declared.Step.the-variants.{Refuse, Go, Emit, Cut, Turn}
-use Rattle.layout.specs.Read.{refusalAt, surrogate, above0, withJustLine, withJustPage, withCharSpacing, withFont, fontStep, rectOf, unit, fits, rectFits, justified, goIf, lineStep, valueStep, itemStep, step, Scan, scan, Event, pass, close, stop, stopIf, whole, newPage, start, follow, read}
+use Rattle.layout.specs.Read.{refusalAt, surrogate, above0, withJustLine, withJustPage, withCharSpacing, withFont, fontStep, rectOf, unit, fits, rectFits, justified, goIf, lineStep, valueStep, itemStep, step, scan, Event, pass, close, stop, whole, newPage, start, follow, read, opening, events}
 use Rattle.layout.proofs.PassLaws.{Grid, and-true}
 
 -- ---- one item
@@ -219,6 +219,59 @@ whole-grid s = record { across = zero-mod _; down = zero-mod _ }
 
 -- ---- a message
 
+-- the items are read as the events, in a state and with the spans of the pass so far: one way for each step. A proof about `read` goes by these ways
+pub data ReadAs (s : Config) : List Item → RenderState → List Entry → List Event → Type 0 where
+  ends : {st : RenderState} {acc : List Entry} → ReadAs s [] st acc (pass (st .rect) acc ∷ [])
+  refuses : {it : Item} {its : List Item} {st : RenderState} {acc : List Entry} {r : Refusal} → RefusedIn (it .start) (it .len) r
+      → ReadAs s (it ∷ its) st acc (stop r ∷ [])
+  goes : {it : Item} {its : List Item} {st st′ : RenderState} {acc : List Entry} {l : List Event} → Taken s st it st′ [] → st′ .rect ≡ st .rect
+      → ReadAs s its st′ acc l → ReadAs s (it ∷ its) st acc l
+  emits : {it : Item} {its : List Item} {st st′ : RenderState} {acc : List Entry} {e : Entry} {l : List Event} → Taken s st it st′ (e ∷ [])
+      → st′ .rect ≡ st .rect → SpanOf st it e → ReadAs s its st′ (acc ++ (e ∷ [])) l → ReadAs s (it ∷ its) st acc l
+  cuts : {it : Item} {its : List Item} {st st′ : RenderState} {acc : List Entry} {l : List Event} → Taken s st it st′ [] → rectFits s (st′ .rect) ≡ true
+      → ReadAs s its st′ [] l → ReadAs s (it ∷ its) st acc (pass (st .rect) acc ∷ l)
+  turns : {it : Item} {its : List Item} {st : RenderState} {acc : List Entry} {a b : ℕ} {l : List Event} → Taken s st it (newPage s st) []
+      → roleIn (it .says) ≡ pageRole → ReadAs s its (newPage s st) [] l → ReadAs s (it ∷ its) st acc (pass (st .rect) acc ∷ close a b ∷ l)
+  -- the next page's scan fails
+  fails : {it : Item} {its : List Item} {st : RenderState} {acc : List Entry} {a b : ℕ} {r : Refusal} → Taken s st it (newPage s st) []
+      → roleIn (it .says) ≡ pageRole → (p q : ℕ) → (scan s p q its) .fault ≡ some r
+      → ReadAs s (it ∷ its) st acc (pass (st .rect) acc ∷ close a b ∷ stop r ∷ [])
+
+module _ (s : Config) (it : Item) (its : List Item) (k : ℕ → ℕ → RenderState → Bool → List Entry → List Event)
+    (hyp : (a b : ℕ) (st : RenderState) (bl : Bool) (acc : List Entry) → ReadAs s its st acc (k a b st bl acc)) where
+  turn-as : (a b : ℕ) (st : RenderState) (acc : List Entry) (o : Option Refusal) → Fair s st it Turn → (scan s a b its) .fault ≡ o
+      → ReadAs s (it ∷ its) st acc (follow s a b st acc its k Turn)
+  turn-as a b st acc none f q = rw q (turns (f .0) (f .1) (hyp _ _ (newPage s st) true []))
+  turn-as a b st acc (some r) f q = rw q (fails (f .0) (f .1) a b q)
+
+  follow-as : (a b : ℕ) (st : RenderState) (acc : List Entry) (t : Step) → Fair s st it t → ReadAs s (it ∷ its) st acc (follow s a b st acc its k t)
+  follow-as a b st acc (Refuse r) f = refuses f
+  follow-as a b st acc (Go st′ bl) f = goes (f .0) (f .1) (hyp a b st′ bl acc)
+  follow-as a b st acc (Emit e st′ bl) f = emits (f .0) (f .1) (f .2) (hyp a b st′ bl (acc ++ (e ∷ [])))
+  follow-as a b st acc (Cut st′) f = cuts (f .0) (f .1) (hyp a b st′ true [])
+  follow-as a b st acc Turn f = turn-as a b st acc ((scan s a b its) .fault) f refl
+
+pub read-as : (s : Config) (its : List Item) (a b : ℕ) (st : RenderState) (bl : Bool) (acc : List Entry) → Honest its
+    → ReadAs s its st acc (read s its a b st bl acc)
+read-as s [] a b st bl acc h = ends
+read-as s (it ∷ its) a b st bl acc h =
+    follow-as s it its (read s its) (λ a b st bl acc. read-as s its a b st bl acc (h .1)) a b st acc (step s st bl it) (step-is-fair s st bl it (h .0))
+
+-- the events of a message: its first page's scan fails, or it is read
+pub data EventsAs (s : Config) (its : List Item) : List Event → Type 0 where
+  refused-at-once : {r : Refusal} (a b : ℕ) → (scan s a b its) .fault ≡ some r → EventsAs s its (stop r ∷ [])
+  begun : {l : List Event} → ReadAs s its (start s) [] l → EventsAs s its l
+
+pub events-as : (s : Config) (its : List Item) → Honest its → EventsAs s its (events s its)
+unfolding events opening
+events-as s its h = look ((scan s (s .«on_time») (s .«off_time») its) .fault) refl
+  where
+    look : (o : Option Refusal) → (scan s (s .«on_time») (s .«off_time») its) .fault ≡ o → EventsAs s its (events s its)
+    look none q = rw q (begun (read-as s its _ _ (start s) true [] h))
+    look (some r) q = rw q (refused-at-once (s .«on_time») (s .«off_time») q)
+
+-- ---- the spans
+
 abbrev pub Runs : List Event → Type 0
 Runs [] = Unit {0}
 Runs (pass r es ∷ evs) = Runs evs
@@ -230,13 +283,6 @@ entries [] = []
 entries (pass r es ∷ evs) = es ++ entries evs
 entries (close a b ∷ evs) = entries evs
 entries (stop r ∷ evs) = entries evs
-
--- P holds of each pass
-abbrev pub EachPass : (Rect → List Entry → Type 0) → List Event → Type 0
-EachPass P [] = Unit {0}
-EachPass P (pass r es ∷ evs) = P r es × EachPass P evs
-EachPass P (close a b ∷ evs) = EachPass P evs
-EachPass P (stop x ∷ evs) = EachPass P evs
 
 -- the first list is the second with some left out
 pub data Part : List ℕ → List ℕ → Type 0 where
@@ -257,72 +303,61 @@ pub record Covers (its : List Item) (acc : List Entry) (l : List Entry) : Type 0
   pub prints : printedEntries news ≡ printedItems its
   pub order : Part (starts news) (itemStarts its)
 
-module _ (s : Config) (it : Item) (its : List Item) (k : ℕ → ℕ → RenderState → Bool → List Entry → List Event)
-    (hyp : (a b : ℕ) (st : RenderState) (bl : Bool) (acc : List Entry) → Runs (k a b st bl acc) → Covers its acc (entries (k a b st bl acc))) where
-  all-read : Reads (it .says) → ((x : Item) → In x its → Reads (x .says)) → (x : Item) → In x (it ∷ its) → Reads (x .says)
-  all-read h f x here = h
-  all-read h f x (there i) = f x i
+module _ {s : Config} {it : Item} {its : List Item} {st st′ : RenderState} where
+  all-read : {es : List Entry} → Taken s st it st′ es → ((x : Item) → In x its → Reads (x .says)) → (x : Item) → In x (it ∷ its) → Reads (x .says)
+  all-read t f x here = t .reads
+  all-read t f x (there i) = f x i
 
   -- the item prints nothing
-  silent : {st st′ : RenderState} (acc : List Entry) (l : List Entry) → Taken s st it st′ [] → Covers its acc l → Covers (it ∷ its) acc l
-  silent acc l t c =
-      record { reads = all-read (t .reads) (c .reads); news = c .news; all = c .all; prints = rw (t .prints) (c .prints); order = skip (c .order) }
+  silent : {acc l : List Entry} → Taken s st it st′ [] → Covers its acc l → Covers (it ∷ its) acc l
+  silent t c = record { reads = all-read t (c .reads); news = c .news; all = c .all; prints = rw (t .prints) (c .prints); order = skip (c .order) }
 
-  -- a pass ends
-  fresh : {st st′ : RenderState} (acc : List Entry) (l : List Entry) → Taken s st it st′ [] → Covers its [] l → Covers (it ∷ its) acc (acc ++ l)
-  fresh acc l t c =
-      let d : Covers (it ∷ its) [] l = silent [] l t c in
-      record { reads = d .reads; news = d .news; all = ap (λ (r : List Entry). acc ++ r) (d .all); prints = d .prints; order = d .order }
-
-  after-stop : {st st′ : RenderState} (acc : List Entry) (f : Option Refusal) (l : List Event) → Taken s st it st′ [] → (Runs l → Covers its [] (entries l))
-      → Runs (stopIf f l) → Covers (it ∷ its) acc (acc ++ entries (stopIf f l))
-  after-stop acc none l t c n = fresh acc (entries l) t (c n)
-  after-stop acc (some r) l t c n = absurd n
-
-  follow-covers : (a b : ℕ) (st : RenderState) (acc : List Entry) (t : Step) → Fair s st it t → Runs (follow s a b st acc its k t)
-      → Covers (it ∷ its) acc (entries (follow s a b st acc its k t))
-  follow-covers a b st acc (Refuse r) f n = absurd n
-  follow-covers a b st acc (Go st′ bl) f n = silent acc _ (f .0) (hyp a b st′ bl acc n)
-  follow-covers a b st acc (Emit e st′ bl) f n =
-      let c : Covers its (acc ++ (e ∷ [])) (entries (k a b st′ bl (acc ++ (e ∷ [])))) = hyp a b st′ bl (acc ++ (e ∷ [])) n in
+  -- and ends a pass
+  fresh : (acc : List Entry) {l : List Entry} → Taken s st it st′ [] → Covers its [] l → Covers (it ∷ its) acc (acc ++ l)
+  fresh acc t c =
       record {
-        reads = all-read (f .0 .reads) (c .reads);
+        reads = all-read t (c .reads);
+        news = c .news;
+        all = ap (λ (r : List Entry). acc ++ r) (c .all);
+        prints = rw (t .prints) (c .prints);
+        order = skip (c .order);
+      }
+
+  spoken : {acc l : List Entry} {e : Entry} → Taken s st it st′ (e ∷ []) → SpanOf st it e → Covers its (acc ++ (e ∷ [])) l → Covers (it ∷ its) acc l
+  spoken {acc = acc} {e = e} t o c =
+      record {
+        reads = all-read t (c .reads);
         news = e ∷ c .news;
         all = c .all ∙ append-assoc acc (e ∷ []) (c .news);
-        prints = rw (f .0 .prints, append-nil (printedEntry e), c .prints);
-        order = both (f .2 .start) (c .order);
+        prints = rw (t .prints, append-nil (printedEntry e), c .prints);
+        order = both (o .start) (c .order);
       }
-  follow-covers a b st acc (Cut st′) f n = fresh acc _ (f .0) (hyp a b st′ true [] n)
-  follow-covers a b st acc Turn f n =
-      let c : Scan = scan s a b its in
-      after-stop acc (c .fault) (k (c .on) (c .off) (newPage s st) true []) (f .0) (hyp (c .on) (c .off) (newPage s st) true []) n
 
-pub read-covers : (s : Config) (its : List Item) (a b : ℕ) (st : RenderState) (bl : Bool) (acc : List Entry) → Honest its → Runs (read s its a b st bl acc)
-    → Covers its acc (entries (read s its a b st bl acc))
-read-covers s [] a b st bl acc h n = record { reads = λ it i. elim i [ ]; news = []; all = refl; prints = refl; order = none-of }
-read-covers s (it ∷ its) a b st bl acc h n =
-    follow-covers s it its (read s its) (λ a b st bl acc n. read-covers s its a b st bl acc (h .1) n) a b st acc (step s st bl it) (step-is-fair s st bl it (h .0)) n
+pub read-covers : {s : Config} {its : List Item} {st : RenderState} {acc : List Entry} {l : List Event} → ReadAs s its st acc l → Runs l
+    → Covers its acc (entries l)
+read-covers ends n = record { reads = λ it i. elim i [ ]; news = []; all = refl; prints = refl; order = none-of }
+read-covers (refuses f) n = absurd n
+read-covers (goes f q r) n = silent f (read-covers r n)
+read-covers (emits f q o r) n = spoken f o (read-covers r n)
+read-covers (cuts {acc = acc} f q r) n = fresh acc f (read-covers r n)
+read-covers (turns {acc = acc} f q r) n = fresh acc f (read-covers r n)
+read-covers (fails f q x y e) n = absurd n
 
 -- ---- the rectangles
 
-module _ (s : Config) (its : List Item) (k : ℕ → ℕ → RenderState → Bool → List Entry → List Event)
-    (hyp : (a b : ℕ) (st : RenderState) (bl : Bool) (acc : List Entry) → Grid s (st .rect) → EachPass (λ r es. Grid s r) (k a b st bl acc)) where
-  each-stop : (f : Option Refusal) (l : List Event) → EachPass (λ r es. Grid s r) l → EachPass (λ r es. Grid s r) (stopIf f l)
-  each-stop none l h = h
-  each-stop (some r) l h = tt
+-- P holds of each pass
+abbrev pub EachPass : (Rect → List Entry → Type 0) → List Event → Type 0
+EachPass P [] = Unit {0}
+EachPass P (pass r es ∷ evs) = P r es × EachPass P evs
+EachPass P (close a b ∷ evs) = EachPass P evs
+EachPass P (stop x ∷ evs) = EachPass P evs
 
-  follow-grid : (it : Item) (a b : ℕ) (st : RenderState) (acc : List Entry) (t : Step) → Fair s st it t → Grid s (st .rect)
-      → EachPass (λ r es. Grid s r) (follow s a b st acc its k t)
-  follow-grid it a b st acc (Refuse r) f g = tt
-  follow-grid it a b st acc (Go st′ bl) f g = hyp a b st′ bl acc (rw (f .1) g)
-  follow-grid it a b st acc (Emit e st′ bl) f g = hyp a b st′ bl (acc ++ (e ∷ [])) (rw (f .1) g)
-  follow-grid it a b st acc (Cut st′) f g = (g, hyp a b st′ true [] (rect-grid s (st′ .rect) (f .1)))
-  follow-grid it a b st acc Turn f g =
-      let c : Scan = scan s a b its in
-      (g, each-stop (c .fault) _ (hyp (c .on) (c .off) (newPage s st) true [] (whole-grid s)))
-
-pub read-grid : (s : Config) (its : List Item) (a b : ℕ) (st : RenderState) (bl : Bool) (acc : List Entry) → Honest its → Grid s (st .rect)
-    → EachPass (λ r es. Grid s r) (read s its a b st bl acc)
-read-grid s [] a b st bl acc h g = (g, tt)
-read-grid s (it ∷ its) a b st bl acc h g =
-    follow-grid s its (read s its) (λ a b st bl acc g. read-grid s its a b st bl acc (h .1) g) it a b st acc (step s st bl it) (step-is-fair s st bl it (h .0)) g
+pub read-grid : {s : Config} {its : List Item} {st : RenderState} {acc : List Entry} {l : List Event} → ReadAs s its st acc l → Grid s (st .rect)
+    → EachPass (λ r es. Grid s r) l
+read-grid ends g = (g, tt)
+read-grid (refuses f) g = tt
+read-grid (goes f q r) g = read-grid r (rw q g)
+read-grid (emits f q o r) g = read-grid r (rw q g)
+read-grid {s = s} (cuts {st′ = st′} f q r) g = (g, read-grid r (rect-grid s (st′ .rect) q))
+read-grid {s = s} (turns f q r) g = (g, read-grid r (whole-grid s))
+read-grid (fails f q x y e) g = (g, tt)

@@ -23,13 +23,13 @@ use Rattle.measure.specs.declared.Measure.{Measure}
 use Rattle.measure.specs.declared.Measure.the-variants.{Width, Missing}
 use Rattle.layout.specs.Fonts.{versionFault, missing, widthOf, measureIn, charFaultAfter, faultIn, widthIn, heightIn, meterOf, boardOf}
 use Rattle.layout.specs.Place.{keep, select, same, firstFault, faultAt, spanFault, passFault, passRecords, recordOf}
-use Rattle.layout.specs.Read.{Scan, Event, pass, close, stop, stopIf, whole, start, read, opening, events}
+use Rattle.layout.specs.Read.{Scan, Event, pass, close, stop, whole, start, opening, events}
 use Rattle.layout.specs.Listing.{Page, on, off, refused, stopAt, offs, passStop, walk, pages}
 use Rattle.layout.specs.Demand.{Reads, rectAfter, justAfter, atPlace, rectAtPlace, justAtPlace, Across, Down, In, here, there, From, Rises, printedRecords, printed, placed, Tells, Measured, Divides, Stands}
 use Rattle.layout.proofs.Geometry.{next-left, from-rises}
 use Rattle.layout.proofs.PassLaws.{Grid, Even, or-none, in-select, same-refl, across, down, spacing}
 use Rattle.layout.proofs.RectLaws.{Seen, read-known, rises-low}
-use Rattle.layout.proofs.Cover.{Runs, entries, printedEntries, Part, none-of, skip, both, starts, itemStarts, Covers, EachPass, Honest, read-covers, read-grid, whole-grid}
+use Rattle.layout.proofs.Cover.{Runs, entries, printedEntries, Part, none-of, skip, both, starts, itemStarts, Covers, EachPass, EventsAs, refused-at-once, begun, events-as, read-covers, read-grid, whole-grid}
 use Rattle.layout.proofs.Items.{items-honest, slices-read, items-printed, items-rise}
 
 -- ---- pages
@@ -299,29 +299,20 @@ module _ (c : Config) (fs : List Font) (msg : List ℕ) where
         let j : justAtPlace c msg (q .start) ≡ o .span .state .«just_page» = ap (justAtPlace c msg) start ∙ sym (w .just (o .span) (o .in-spans)) in
         rw (o .is, (w .tells (o .span) (o .in-spans)) .start, ← w .rect (o .span) (o .in-spans)) (w .down (o .span) (o .in-spans) (λ z. d (j ∙ z)))
 
-stopped-runs : (f : Option Refusal) (l : List Event) → Runs (stopIf f l) → (stopIf f l ≡ l) × Runs l
-stopped-runs none l h = (refl, h)
-stopped-runs (some r) l h = absurd h
-
 -- what is known of the events of a message that is read without refusal
 record Read (c : Config) (its : List Item) (evs : List Event) : Type 0 where
   cover : Covers its [] (entries evs)
   grid : EachPass (λ r es. Grid c r) evs
   known : EachPass (λ r es. (e : Entry) → In e es → Seen c (atPlace (rectAfter c) (whole c) its) (atPlace (justAfter c) (c .«page_just») its) r e) evs
 
-events-read : (c : Config) (its : List Item) → Honest its → Rises (itemStarts its) → Runs (events c its) → Read c its (events c its)
-unfolding events
-events-read c its v u h =
-    let o : Scan = opening c its in
-    let (e, h′) = stopped-runs (o .fault) (read c its (o .on) (o .off) (start c) true []) h in
-    rw e
-    (record {
-      cover = read-covers c its (o .on) (o .off) (start c) true [] v h′;
-      grid = read-grid c its (o .on) (o .off) (start c) true [] v (whole-grid c);
-      known =
-          read-known c _ _ 0 its (o .on) (o .off) (start c) true [] v (rises-low its u) (record { at = λ n _. refl }) (record { at = λ n _. refl })
-          (λ e i. elim i [ ]);
-    })
+events-read : {c : Config} {its : List Item} {l : List Event} → EventsAs c its l → Rises (itemStarts its) → Runs l → Read c its l
+events-read (refused-at-once a b e) u n = absurd n
+events-read {c = c} {its = its} (begun r) u n =
+    record {
+      cover = read-covers r n;
+      grid = read-grid r (whole-grid c);
+      known = read-known c _ _ r (rises-low its u) (record { rect = record { at = λ n _. refl }; just = record { at = λ n _. refl } }) (λ e i. elim i [ ]);
+    }
 
 -- demand 3 of the pages of a message
 pub record Told (c : Config) (fs : List Font) (msg : List ℕ) (qs : List Span) : Type 0 where
@@ -342,7 +333,7 @@ told c fs msg h =
     let evs : List Event = events c its in
     let o : Scan = opening c its in
     let w : Walked s evs [] (pages s its) = walked s evs (o .on) (o .off) [] 0 h in
-    let k : Read c its evs = events-read c its (items-honest msg) (items-rise msg) (w .runs) in
+    let k : Read c its evs = events-read (events-as c its (items-honest msg)) (items-rise msg) (w .runs) in
     let f : (r : Rect) (es : List Entry) → In (pass r es) evs → Stands c fs msg r es = λ r es i. each-fine c fs msg evs (k .grid) (k .known) (w .fine) i in
     let reads : (s : Slice) → In s (slices msg) → Reads (itemOf (s .start) (s .bytes)) = slices-read msg (k .cover .reads) in
     record {

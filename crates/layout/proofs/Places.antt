@@ -34,11 +34,9 @@ use Rattle.measure.specs.declared.Measure.{Measure}
 use Rattle.measure.specs.declared.Measure.the-variants.{Width, Missing}
 use Rattle.layout.specs.Fonts.{versionFault, missing, measureIn, fontFaultIn, charFaultAfter, faultIn, meterOf, boardOf}
 use Rattle.layout.specs.Place.{orElse, unless, firstFault, group, page, faultAt, spanFault, goesBack, backFault, passFault, passRecords}
-use Rattle.layout.specs.declared.Step.{Step}
-use Rattle.layout.specs.declared.Step.the-variants.{Refuse, Go, Emit, Cut, Turn}
-use Rattle.layout.specs.Read.{tagged, markItem, scanBy, step, Scan, scan, Event, pass, close, stop, stopIf, newPage, start, follow, read, opening, events}
+use Rattle.layout.specs.Read.{tagged, markItem, scanBy, Scan, scan, Event, pass, close, stop, start, opening, events}
 use Rattle.layout.specs.Listing.{Page, on, off, refused, stopAt, offs, passStop, walk, pages, Result, numbered, refusing, resultOn, listing}
-use Rattle.layout.proofs.Cover.{Within, Fair, step-is-fair, Honest}
+use Rattle.layout.proofs.Cover.{Within, ReadAs, ends, refuses, goes, emits, cuts, turns, fails, EventsAs, refused-at-once, begun, events-as, Honest}
 use Rattle.layout.proofs.Checks.{accepted-result, answer-on}
 use Rattle.layout.proofs.SignPlace.{sign-start}
 use Rattle.layout.proofs.Items.{AllIn, items-honest, items-in}
@@ -207,31 +205,29 @@ module _ (top : ℕ) where
   Events (close a b ∷ evs) = Events evs
   Events (stop r ∷ evs) = Inside r × Events evs
 
-  events-stop : {f : Option Refusal} (l : List Event) → Fault Inside f → Events l → Events (stopIf f l)
-  events-stop l fine h = h
-  events-stop l (faulty i) h = (i, tt)
-
   snoc-spans : (es : List Entry) (e : Entry) → Spans es → e .start + e .len ≤ top → Spans (es ++ (e ∷ []))
   snoc-spans [] e h p = (p, tt)
   snoc-spans (x ∷ es) e h p = (h .0, snoc-spans es e (h .1) p)
 
-  module _ (s : Config) (it : Item) (its : List Item) (i : it .start + it .len ≤ top) (o : Honest its) (is : AllIn top its)
-      (k : ℕ → ℕ → RenderState → Bool → List Entry → List Event) (hyp : (a b : ℕ) (st : RenderState) (bl : Bool) (acc : List Entry) → Spans acc → Events (k a b st bl acc)) where
-    follow-in : (a b : ℕ) (st : RenderState) (acc : List Entry) (t : Step) → Fair s st it t → Spans acc → Events (follow s a b st acc its k t)
-    follow-in a b st acc (Refuse r) f h = (record { late = f .late; place = omega (arith, f .start, f .length) }, tt)
-    follow-in a b st acc (Go st′ bl) f h = hyp a b st′ bl acc h
-    follow-in a b st acc (Emit e st′ bl) f h = hyp a b st′ bl (acc ++ (e ∷ [])) (snoc-spans acc e h (omega (arith, f .2 .start, f .2 .len)))
-    follow-in a b st acc (Cut st′) f h = (h, hyp a b st′ true [] tt)
-    follow-in a b st acc Turn f h =
-        let c : Scan = scan s a b its in
-        (h, events-stop (k (c .on) (c .off) (newPage s st) true []) (scan-fault s a b its o is) (hyp (c .on) (c .off) (newPage s st) true [] tt))
+  scan-stop : (s : Config) (its : List Item) (a b : ℕ) (r : Refusal) → Honest its → AllIn top its → (scan s a b its) .fault ≡ some r → Inside r
+  scan-stop s its a b r o h e = look (rw e at (scan-fault s a b its o h))
+    where
+      look : Fault Inside (some r) → Inside r
+      look (faulty i) = i
 
-  read-in : (s : Config) (its : List Item) (a b : ℕ) (st : RenderState) (bl : Bool) (acc : List Entry) → Honest its → AllIn top its → Spans acc
-      → Events (read s its a b st bl acc)
-  read-in s [] a b st bl acc o h u = (u, tt)
-  read-in s (it ∷ its) a b st bl acc o h u =
-      follow-in s it its (h .0) (o .1) (h .1) (read s its) (λ a b st bl acc u. read-in s its a b st bl acc (o .1) (h .1) u) a b st acc (step s st bl it)
-      (step-is-fair s st bl it (o .0)) u
+  read-in : {s : Config} {its : List Item} {st : RenderState} {acc : List Entry} {l : List Event} → ReadAs s its st acc l → Honest its
+      → AllIn top its → Spans acc → Events l
+  read-in ends o h u = (u, tt)
+  read-in (refuses f) o h u = (record { late = f .late; place = omega (arith, f .start, f .length) }, tt)
+  read-in (goes f q r) o h u = read-in r (o .1) (h .1) u
+  read-in (emits {acc = acc} {e = e} f q p r) o h u = read-in r (o .1) (h .1) (snoc-spans acc e u (omega (arith, p .start, p .len)))
+  read-in (cuts f q r) o h u = (u, read-in r (o .1) (h .1) tt)
+  read-in (turns f q r) o h u = (u, read-in r (o .1) (h .1) tt)
+  read-in {s = s} (fails {its = its} {r = r} f q x y e) o h u = (u, (scan-stop s its x y r (o .1) (h .1) e, tt))
+
+  events-in : {s : Config} {its : List Item} {l : List Event} → EventsAs s its l → Honest its → AllIn top its → Events l
+  events-in {s = s} {its = its} (refused-at-once {r = r} a b e) o h = (scan-stop s its a b r o h e, tt)
+  events-in (begun r) o h = read-in r o h tt
 
   -- ---- the pages
 
@@ -274,13 +270,12 @@ module _ (top : ℕ) where
   numbered-in c (refused r ∷ l) (suc n) h = h .0
 
 pages-in : (msg : List ℕ) (s : Board) → LateFaults s → Pages (length msg) (pages s (items msg))
-unfolding pages events opening
+unfolding pages
 pages-in msg s m =
-    let c : Scan = scan (s .config) (s .config .«on_time») (s .config .«off_time») (items msg) in
-    walk-in (length msg) s m (events (s .config) (items msg)) (c .on) (c .off) [] 0
-    (events-stop (length msg) (read (s .config) (items msg) (c .on) (c .off) (start (s .config)) true [])
-    (scan-fault (length msg) (s .config) (s .config .«on_time») (s .config .«off_time») (items msg) (items-honest msg) (items-in msg))
-    (read-in (length msg) (s .config) (items msg) (c .on) (c .off) (start (s .config)) true [] (items-honest msg) (items-in msg) tt))
+    let o : Scan = opening (s .config) (items msg) in
+    let h : Honest (items msg) = items-honest msg in
+    walk-in (length msg) s m (events (s .config) (items msg)) (o .on) (o .off) [] 0
+    (events-in (length msg) (events-as (s .config) (items msg) h) h (items-in msg))
 
 answers-in : (c : Config) (fs : List Font) (msg : List ℕ) (n : ℕ) → Placed (length msg) ((numbered 0 (pages (boardOf msg c fs) (items msg)) n) .answer)
 answers-in c fs msg n = numbered-in (length msg) 0 (pages (boardOf msg c fs) (items msg)) n (pages-in msg (boardOf msg c fs) (board-late msg c fs))

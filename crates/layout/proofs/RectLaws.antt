@@ -3,21 +3,16 @@ use Prim.Native.Nat.{ℕ, suc, _+_, _≤_}
 use native.Mathlib.Nat.{le-refl}
 use native.Mathlib.Omega.{arith}
 use mathlib.Core.Path.{_≡_, sym, ap, _∙_}
-use mathlib.Core.Bool.{Bool, true}
-use mathlib.Core.Option.{Option, none, some}
 use mathlib.Core.List.{List, [], _∷_, _++_}
 use borrow.Author.Tests.{le-leb, lt-leb}
-use Rattle.reading.specs.declared.Refusal.{Refusal}
 use Rattle.records.specs.declared.Config.{Config}
 use Rattle.layout.specs.declared.Rect.{Rect}
 use Rattle.layout.specs.declared.RenderState.{RenderState}
 use Rattle.layout.specs.declared.Entry.{Entry}
 use Rattle.layout.specs.Types.{Item}
 use Rattle.layout.specs.Demand.{Role, atPlace, rectAfter, justAfter, roleIn, In, here, there, From, Rises}
-use Rattle.layout.specs.declared.Step.{Step}
-use Rattle.layout.specs.declared.Step.the-variants.{Refuse, Go, Emit, Cut, Turn}
-use Rattle.layout.specs.Read.{step, Scan, scan, Event, stopIf, newPage, follow, read}
-use Rattle.layout.proofs.Cover.{Taken, Fair, step-is-fair, itemStarts, EachPass, Honest}
+use Rattle.layout.specs.Read.{Event}
+use Rattle.layout.proofs.Cover.{Taken, SpanOf, ReadAs, ends, refuses, goes, emits, cuts, turns, fails, itemStarts, EachPass}
 
 -- the starts rise strictly from lo on
 abbrev pub Low : ℕ → List Item → Type 0
@@ -62,42 +57,36 @@ module _ (s : Config) (R : ℕ → Rect) (J : ℕ → ℕ) where
   abbrev Known : Rect → List Entry → Type 0
   Known r es = (e : Entry) → In e es → Seen r e
 
-  record Rest (lo : ℕ) (st : RenderState) (its : List Item) : Type 0 where
-    rect : Agrees (rectAfter s) R lo (st .rect) its
-    just : Agrees (justAfter s) J lo (st .«just_page») its
+  pub record Rest (lo : ℕ) (st : RenderState) (its : List Item) : Type 0 where
+    pub rect : Agrees (rectAfter s) R lo (st .rect) its
+    pub just : Agrees (justAfter s) J lo (st .«just_page») its
 
-  none-known : (r : Rect) → Known r []
-  none-known r e i = elim i [ ]
+  module _ {lo : ℕ} {it : Item} {its : List Item} {st : RenderState} (h : lo ≤ it .start) (t : Rest lo st (it ∷ its)) where
+    rest-next : {st′ : RenderState} {es : List Entry} → Taken s st it st′ es → Rest (suc (it .start)) st′ its
+    rest-next f = record { rect = agrees-next (rectAfter s) R h (t .rect) (f .rect); just = agrees-next (justAfter s) J h (t .just) (f .just) }
 
-  known-stop : (f : Option Refusal) (l : List Event) → EachPass Known l → EachPass Known (stopIf f l)
-  known-stop none l h = h
-  known-stop (some r) l h = tt
+    seen : {e : Entry} → SpanOf st it e → Seen (st .rect) e
+    seen o =
+        record {
+          rect = rw (o .start) (sym (agrees-here (rectAfter s) R h (t .rect)));
+          just = rw (o .start, o .state) (sym (agrees-here (justAfter s) J h (t .just)));
+        }
 
-  module _ (it : Item) (its : List Item) (k : ℕ → ℕ → RenderState → Bool → List Entry → List Event)
-      (hyp : (a b : ℕ) (st : RenderState) (bl : Bool) (acc : List Entry) → Rest (suc (it .start)) st its → Known (st .rect) acc → EachPass Known (k a b st bl acc)) where
-    rest-next : {lo : ℕ} {st st′ : RenderState} {es : List Entry} → lo ≤ it .start → Taken s st it st′ es → Rest lo st (it ∷ its) → Rest (suc (it .start)) st′ its
-    rest-next h f t = record { rect = agrees-next (rectAfter s) R h (t .rect) (f .rect); just = agrees-next (justAfter s) J h (t .just) (f .just) }
+  none-known : {r : Rect} → Known r []
+  none-known e i = elim i [ ]
 
-    known-on : {r r′ : Rect} (acc : List Entry) → r′ ≡ r → Known r acc → Known r′ acc
-    known-on acc q u = rw q u
+  same-known : {r r′ : Rect} {es : List Entry} → r′ ≡ r → Known r es → Known r′ es
+  same-known q u = rw q u
 
-    follow-known : (lo a b : ℕ) (st : RenderState) (acc : List Entry) (t : Step) → lo ≤ it .start → Fair s st it t → Rest lo st (it ∷ its) → Known (st .rect) acc
-        → EachPass Known (follow s a b st acc its k t)
-    follow-known lo a b st acc (Refuse r) h f t u = tt
-    follow-known lo a b st acc (Go st′ bl) h f t u = hyp a b st′ bl acc (rest-next h (f .0) t) (known-on acc (f .1) u)
-    follow-known lo a b st acc (Emit e st′ bl) h f t u =
-        let here-rect : R (it .start) ≡ st .rect = agrees-here (rectAfter s) R h (t .rect) in
-        let here-just : J (it .start) ≡ st .«just_page» = agrees-here (justAfter s) J h (t .just) in
-        let seen : Seen (st .rect) e = record { rect = rw (f .2 .start) (sym here-rect); just = rw (f .2 .start, f .2 .state) (sym here-just) } in
-        hyp a b st′ bl (acc ++ (e ∷ [])) (rest-next h (f .0) t) (known-on (acc ++ (e ∷ [])) (f .1) (λ c i. in-snoc acc e (Seen (st .rect)) u seen i))
-    follow-known lo a b st acc (Cut st′) h f t u = (u, hyp a b st′ true [] (rest-next h (f .0) t) (none-known (st′ .rect)))
-    follow-known lo a b st acc Turn h f t u =
-        let c : Scan = scan s a b its in
-        (u, known-stop (c .fault) _ (hyp (c .on) (c .off) (newPage s st) true [] (rest-next h (f .0) t) (none-known _)))
+  more-known : {r : Rect} (es : List Entry) {e : Entry} → Known r es → Seen r e → Known r (es ++ (e ∷ []))
+  more-known {r = r} es {e = e} u z c i = in-snoc es e (Seen r) u z i
 
-  pub read-known : (lo : ℕ) (its : List Item) (a b : ℕ) (st : RenderState) (bl : Bool) (acc : List Entry) → Honest its → Low lo its
-      → Agrees (rectAfter s) R lo (st .rect) its → Agrees (justAfter s) J lo (st .«just_page») its → Known (st .rect) acc → EachPass Known (read s its a b st bl acc)
-  read-known lo [] a b st bl acc o h p q u = (u, tt)
-  read-known lo (it ∷ its) a b st bl acc o h p q u =
-      follow-known it its (read s its) (λ a b st bl acc t u. read-known (suc (it .start)) its a b st bl acc (o .1) (h .1) (t .rect) (t .just) u) lo a b st acc
-      (step s st bl it) (h .0) (step-is-fair s st bl it (o .0)) (record { rect = p; just = q }) u
+  pub read-known : {lo : ℕ} {its : List Item} {st : RenderState} {acc : List Entry} {l : List Event} → ReadAs s its st acc l → Low lo its → Rest lo st its
+      → Known (st .rect) acc → EachPass Known l
+  read-known ends h t u = (u, tt)
+  read-known (refuses f) h t u = tt
+  read-known (goes f q r) h t u = read-known r (h .1) (rest-next (h .0) t f) (same-known q u)
+  read-known (emits {acc = acc} f q o r) h t u = read-known r (h .1) (rest-next (h .0) t f) (same-known q (more-known acc u (seen (h .0) t o)))
+  read-known (cuts f q r) h t u = (u, read-known r (h .1) (rest-next (h .0) t f) none-known)
+  read-known (turns f q r) h t u = (u, read-known r (h .1) (rest-next (h .0) t f) none-known)
+  read-known (fails f q x y e) h t u = (u, tt)
