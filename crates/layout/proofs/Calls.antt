@@ -36,7 +36,7 @@ shows-runs (Refused r) h = absurd h
 taken : (c : Config) (fs : List Font) (msg : List ℕ) (n room : ℕ) → Runs ((resultOn (Accepted c fs) msg n room) .answer)
     → resultOn (Accepted c fs) msg n room ≡ numbered 0 (pages (boardOf msg c fs) (items msg)) n
 taken c fs msg n room =
-    accepted-result msg n room (λ r. Runs (r .answer) → r ≡ numbered 0 (pages (boardOf msg c fs) (items msg)) n) c fs (λ k h. absurd h) (λ p q h. refl)
+    accepted-result msg n room (λ r. Runs (r .answer) → r ≡ numbered 0 (pages (boardOf msg c fs) (items msg)) n) c fs (λ k _ h. absurd h) (λ p q h. refl)
 
 -- ---- the answers in a row
 
@@ -158,6 +158,7 @@ module _ (file msg : List ℕ) (lent : ℕ → List Span) where
           fonts = fs;
           accepted = acc;
           ends = w .ends ∙ ap End (omega (arith, d .count));
+          reads = t .reads;
           printing = rw q (t .printing);
           rising = rw q (t .rising);
           spans-listed = q ∙ t .listed;

@@ -22,13 +22,11 @@ use Rattle.records.specs.declared.Config.{Config}
 use Rattle.layout.specs.Types.{Item, items, Board}
 use Rattle.layout.specs.Fonts.{boardOf}
 use Rattle.layout.specs.Place.{passRecords}
-use Rattle.layout.specs.declared.Step.{Step}
-use Rattle.layout.specs.declared.Step.the-variants.{Refuse, Go, Emit, Cut, Turn}
-use Rattle.layout.specs.Read.{step, Scan, scan, Event, pass, close, stop, stopIf, newPage, start, follow, read, opening, events}
+use Rattle.layout.specs.Read.{Scan, Event, pass, close, stop, start, opening, events}
 use Rattle.layout.specs.Listing.{Page, on, off, refused, stopAt, offs, passStop, walk, pages, numbered, listing, Result, refusing, resultOn}
-use Rattle.layout.specs.Demand.{roleIn, Shows}
+use Rattle.layout.specs.Demand.{Shows}
 use Rattle.layout.specs.Bounds.{breaks, pageBreaks, Stops, StopsBy}
-use Rattle.layout.proofs.Cover.{Fair, step-is-fair, Honest}
+use Rattle.layout.proofs.Cover.{ReadAs, ends, refuses, goes, emits, cuts, turns, fails, EventsAs, refused-at-once, begun, events-as}
 use Rattle.layout.proofs.Items.{items-honest}
 use Rattle.layout.proofs.Checks.{accepted-result, answer-on}
 
@@ -54,35 +52,24 @@ walk-le s (pass r es ∷ evs) a b rs n = stop-le (passStop s n r es) _ _ (walk-l
 walk-le s (close p q ∷ evs) a b rs n = omega (arith, offs-le b (walk s evs p q [] 0), walk-le s evs p q [] 0)
 walk-le s (stop r ∷ evs) a b rs n = omega arith
 
-closes-stop : (f : Option Refusal) (l : List Event) → closes (stopIf f l) ≤ closes l
-closes-stop none l = omega arith
-closes-stop (some r) l = omega arith
+read-closes : {s : Config} {its : List Item} {st : RenderState} {acc : List Entry} {l : List Event} → ReadAs s its st acc l → closes l ≤ pageBreaks its
+read-closes ends = omega arith
+read-closes (refuses f) = omega arith
+read-closes (goes f q r) = omega (arith, read-closes r)
+read-closes (emits f q o r) = omega (arith, read-closes r)
+read-closes (cuts f q r) = omega (arith, read-closes r)
+read-closes (turns f q r) = omega (arith, ap breaks q, read-closes r)
+read-closes (fails f q x y e) = omega (arith, ap breaks q)
 
-module _ (msg : List ℕ) (s : Config) (it : Item) (its : List Item) (k : ℕ → ℕ → RenderState → Bool → List Entry → List Event)
-    (hyp : (a b : ℕ) (st : RenderState) (bl : Bool) (acc : List Entry) → closes (k a b st bl acc) ≤ pageBreaks its) where
-  follow-closes : (a b : ℕ) (st : RenderState) (acc : List Entry) (t : Step) → Fair msg s st it t → closes (follow s a b st acc its k t) ≤ pageBreaks (it ∷ its)
-  follow-closes a b st acc (Refuse r) f = omega arith
-  follow-closes a b st acc (Go st′ bl) f = omega (arith, hyp a b st′ bl acc)
-  follow-closes a b st acc (Emit e st′ bl) f = omega (arith, hyp a b st′ bl (acc ++ (e ∷ [])))
-  follow-closes a b st acc (Cut st′) f = omega (arith, hyp a b st′ true [])
-  follow-closes a b st acc Turn f =
-      let c : Scan = scan s a b its in
-      let e : breaks (roleIn (it .says)) ≡ 1 = ap breaks (f .2) in
-      omega (arith, closes-stop (c .fault) (k (c .on) (c .off) (newPage s st) true []), hyp (c .on) (c .off) (newPage s st) true [])
-
-read-closes : (msg : List ℕ) (s : Config) (its : List Item) (a b : ℕ) (st : RenderState) (bl : Bool) (acc : List Entry) → Honest its
-    → closes (read s its a b st bl acc) ≤ pageBreaks its
-read-closes msg s [] a b st bl acc h = omega arith
-read-closes msg s (it ∷ its) a b st bl acc h =
-    follow-closes msg s it its (read s its) (λ a b st bl acc. read-closes msg s its a b st bl acc (h .1)) a b st acc (step s st bl it)
-    (step-is-fair msg s st bl it (h .0))
+events-closes : {s : Config} {its : List Item} {l : List Event} → EventsAs s its l → closes l ≤ pageBreaks its
+events-closes (refused-at-once a b e) = omega arith
+events-closes (begun r) = read-closes r
 
 pages-le : (msg : List ℕ) (s : Board) → length (pages s (items msg)) ≤ 2 * suc (pageBreaks (items msg))
-unfolding pages events
+unfolding pages
 pages-le msg s =
     let o : Scan = opening (s .config) (items msg) in
-    let l : List Event = read (s .config) (items msg) (o .on) (o .off) (start (s .config)) true [] in
-    omega (arith, walk-le s (stopIf (o .fault) l) (o .on) (o .off) [] 0, closes-stop (o .fault) l, read-closes msg (s .config) (items msg) (o .on) (o .off) (start (s .config)) true [] (items-honest msg))
+    omega (arith, walk-le s (events (s .config) (items msg)) (o .on) (o .off) [] 0, events-closes (events-as (s .config) (items msg) (items-honest msg)))
 
 -- ---- the first answer that stops
 
@@ -137,7 +124,7 @@ always-stops file msg lent = look (signFile file) refl
         let n : ℕ = length (pages (boardOf msg c fs) (items msg)) in
         stop-at file msg lent n _ (pages-le msg (boardOf msg c fs))
         (rw (answer-on file msg n (lent n) (Accepted c fs) e)
-        (accepted-result msg n (length (lent n)) (λ r. Stops (r .answer)) c fs (λ k. tt) (λ p q. numbered-stops 0 (pages (boardOf msg c fs) (items msg)))))
+        (accepted-result msg n (length (lent n)) (λ r. Stops (r .answer)) c fs (λ k _. tt) (λ p q. numbered-stops 0 (pages (boardOf msg c fs) (items msg)))))
 
 -- ---- "From a refused answer on, every later answer is that refusal"
 

@@ -20,31 +20,32 @@ use Rattle.reading.specs.declared.Item.the-variants.{Is, Fails}
 use Rattle.reading.specs.Reading.{parsedItem, tagItem, textItem, shapeItem, itemOf}
 use Rattle.token.proofs.Laws.{slice-le, text-then}
 use Rattle.layout.specs.Types.{Item, itemAt, items}
-use Rattle.layout.specs.Demand.{Role, text, hexadecimal, rectangle, newPage as pageRole, other, roleOf, roleIn, printedSlice, printed, From, Rises}
-use Rattle.layout.proofs.Cover.{okay, printedOf, printedItems, Within, Honest, itemStarts}
+use Rattle.layout.specs.Demand.{Role, text, hexadecimal, rectangle, pageJust, newPage as pageRole, other, In, here, there, roleOf, roleIn, Reads, printedSlice, printed, From, Rises}
+use Rattle.layout.proofs.Cover.{printedOf, printedItems, Within, Honest, itemStarts}
 use Rattle.layout.proofs.Tags.{NoText, TagLike, good, unsupported, bad, tag-value}
 
 -- ---- an item
 
 -- a slice of n bytes at a place: its text starts there, and its value prints what the slice prints
 record Fits (sh : Shape) (a n : ℕ) (x : Said) : Type 0 where
-  starts : Within a n (roleIn x)
-  prints : printedOf (roleIn x) a n ≡ printedSlice x sh a n
+  starts : Within a n x
+  prints : Reads x → printedOf (roleIn x) a n ≡ printedSlice x sh a n
 
 role-fits : (a n : ℕ) (v : Value) (r : Role) → roleOf v ≡ r → NoText r → Fits Tag a n (Is v)
 role-fits a n v (text p) e h = absurd h
-role-fits a n v hexadecimal e h = record { starts = rw e tt; prints = rw e }
-role-fits a n v (rectangle r) e h = record { starts = rw e tt; prints = rw e }
-role-fits a n v pageRole e h = record { starts = rw e tt; prints = rw e }
-role-fits a n v other e h = record { starts = rw e tt; prints = rw e }
+role-fits a n v hexadecimal e h = record { starts = rw e tt; prints = λ _. rw e }
+role-fits a n v (rectangle r) e h = record { starts = rw e tt; prints = λ _. rw e }
+role-fits a n v (pageJust j) e h = record { starts = rw e tt; prints = λ _. rw e }
+role-fits a n v pageRole e h = record { starts = rw e tt; prints = λ _. rw e }
+role-fits a n v other e h = record { starts = rw e tt; prints = λ _. rw e }
 
-fails-fits : (sh : Shape) (a n k : ℕ) → Fits sh a n (Fails k)
-fails-fits sh a n k = record { starts = tt; prints = refl }
+fails-fits : (sh : Shape) (a n k : ℕ) → 4 < k → Fits sh a n (Fails k)
+fails-fits sh a n k h = record { starts = h; prints = λ f. absurd f }
 
 parsed-fits : (a n : ℕ) {p : Parsed} → TagLike p → Fits Tag a n (parsedItem p)
 parsed-fits a n (good {v = v} h) = role-fits a n v (roleOf v) refl h
-parsed-fits a n unsupported = fails-fits Tag a n 5
-parsed-fits a n bad = fails-fits Tag a n 6
+parsed-fits a n unsupported = fails-fits Tag a n 5 (omega arith)
+parsed-fits a n bad = fails-fits Tag a n 6 (omega arith)
 
 pick-fits : (sh : Shape) (a n : ℕ) (t : Bool) {x y : Said} → Fits sh a n x → Fits sh a n y → Fits sh a n (pick t x y)
 pick-fits sh a n true p q = p
@@ -53,23 +54,25 @@ pick-fits sh a n false p q = q
 module _ (a : ℕ) (s : List ℕ) (h : 1 ≤ length s) where
   tag-fits : Fits Tag a (length s) (tagItem a s)
   unfolding tagItem
-  tag-fits = pick-fits Tag a (length s) (leb 2 (length s)) (parsed-fits a (length s) (tag-value _ _)) (fails-fits Tag a (length s) 5)
+  tag-fits = pick-fits Tag a (length s) (leb 2 (length s)) (parsed-fits a (length s) (tag-value _ _)) (fails-fits Tag a (length s) 5 (omega arith))
 
   text-fits : Fits TextShape a (length s) (textItem a s)
   unfolding textItem
-  text-fits = pick-fits TextShape a (length s) (allLatin1 (codes s)) (record { starts = (refl, le-refl _); prints = refl }) (fails-fits TextShape a (length s) 7)
+  text-fits =
+      pick-fits TextShape a (length s) (allLatin1 (codes s)) (record { starts = (refl, le-refl _); prints = λ _. refl })
+      (fails-fits TextShape a (length s) 7 (omega arith))
 
   shape-fits : (sh : Shape) → Fits sh a (length s) (shapeItem sh a s)
-  shape-fits Bracket = record { starts = (refl, h); prints = refl }
+  shape-fits Bracket = record { starts = (refl, h); prints = λ _. refl }
   shape-fits Tag = tag-fits
-  shape-fits Stray = fails-fits Stray a (length s) 5
+  shape-fits Stray = fails-fits Stray a (length s) 5 (omega arith)
   shape-fits TextShape = text-fits
 
   item-fits : Fits (shapeOf s) a (length s) (itemOf a s)
   unfolding itemOf
   item-fits = shape-fits (shapeOf s)
 
-  pub item-within : Within a (length s) (roleIn (itemOf a s))
+  pub item-within : Within a (length s) (itemOf a s)
   item-within = item-fits .starts
 
 -- ---- the items of a message
@@ -79,10 +82,18 @@ cuts-honest at k [] = tt
 cuts-honest at zero (b ∷ l) = ((item-fits at (b ∷ take (restLen b l) l) (omega arith)) .starts, cuts-honest (suc at) (restLen b l) l)
 cuts-honest at (suc k) (b ∷ l) = cuts-honest (suc at) k l
 
-cuts-printed : (at k : ℕ) (l : List ℕ) → printedItems (map itemAt (cuts at k l)) ≡ printed (cuts at k l)
-cuts-printed at k [] = refl
-cuts-printed at zero (b ∷ l) = rw ((item-fits at (b ∷ take (restLen b l) l) (omega arith)) .prints, cuts-printed (suc at) (restLen b l) l)
-cuts-printed at (suc k) (b ∷ l) = cuts-printed (suc at) k l
+abbrev AllRead : List Slice → Type 0
+AllRead ss = (s : Slice) → In s ss → Reads (itemOf (s .start) (s .bytes))
+
+cuts-printed : (at k : ℕ) (l : List ℕ) → AllRead (cuts at k l) → printedItems (map itemAt (cuts at k l)) ≡ printed (cuts at k l)
+cuts-printed at k [] h = refl
+cuts-printed at zero (b ∷ l) h =
+    rw ((item-fits at (b ∷ take (restLen b l) l) (omega arith)) .prints (h _ here), cuts-printed (suc at) (restLen b l) l (λ s i. h s (there i)))
+cuts-printed at (suc k) (b ∷ l) h = cuts-printed (suc at) k l h
+
+in-map : {s : Slice} {ss : List Slice} → In s ss → In (itemAt s) (map itemAt ss)
+in-map here = here
+in-map (there i) = there (in-map i)
 
 abbrev sliceStarts : List Slice → List ℕ
 sliceStarts ss = map (λ e. e .start) ss
@@ -106,15 +117,29 @@ module _ (msg : List ℕ) where
   unfolding items slices
   items-honest = cuts-honest 0 0 msg
 
-  pub items-printed : printedItems (items msg) ≡ printed (slices msg)
+  -- the slices read if the items do
+  pub slices-read : ((it : Item) → In it (items msg) → Reads (it .says)) → (s : Slice) → In s (slices msg) → Reads (itemOf (s .start) (s .bytes))
+  unfolding items
+  slices-read h s i = h (itemAt s) (in-map i)
+
+  pub items-printed : ((s : Slice) → In s (slices msg) → Reads (itemOf (s .start) (s .bytes))) → printedItems (items msg) ≡ printed (slices msg)
   unfolding items slices
-  items-printed = cuts-printed 0 0 msg
+  items-printed h = cuts-printed 0 0 msg h
 
   pub items-rise : Rises (itemStarts (items msg))
   unfolding items slices
   items-rise = rw (starts-kept (cuts 0 0 msg)) (cuts-rise 0 0 msg)
 
 -- ---- how many items a message has
+
+-- 1 for an item that reads
+abbrev pub okay : Said → ℕ
+okay (Is v) = 1
+okay (Fails n) = 0
+
+pub reads-okay : (x : Said) → Reads x → okay x ≡ 1
+reads-okay (Is v) h = refl
+reads-okay (Fails n) h = absurd h
 
 abbrev pub okays : List Item → ℕ
 okays [] = 0

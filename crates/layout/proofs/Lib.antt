@@ -10,5 +10,6 @@ pub mod Pages
 pub mod Calls
 pub mod Ends
 pub mod Room
+pub mod SignPlace
 pub mod Places
 pub mod Bounds

@@ -9,7 +9,8 @@ use mathlib.Core.Option.{Option, none, some}
 use mathlib.Core.List.{List, [], _∷_, _++_, map, append-assoc}
 use lib.Dec.{eqb}
 use Rattle.base.specs.Pick.{pick}
-use Rattle.token.specs.Token.{slices}
+use Rattle.token.specs.Token.{Slice, slices}
+use Rattle.reading.specs.Reading.{itemOf}
 use Rattle.records.specs.declared.Config.{Config}
 use Rattle.sign.specs.Sign.{Font}
 use Rattle.reading.specs.declared.Refusal.{Refusal}
@@ -22,14 +23,14 @@ use Rattle.measure.specs.declared.Measure.{Measure}
 use Rattle.measure.specs.declared.Measure.the-variants.{Width, Missing}
 use Rattle.layout.specs.Fonts.{versionFault, missing, widthOf, measureIn, charFaultAfter, faultIn, widthIn, heightIn, meterOf, boardOf}
 use Rattle.layout.specs.Place.{keep, select, same, firstFault, faultAt, spanFault, passFault, passRecords, recordOf}
-use Rattle.layout.specs.Read.{Scan, Event, pass, close, stop, stopIf, whole, start, read, opening, events}
+use Rattle.layout.specs.Read.{Scan, Event, pass, close, stop, whole, start, opening, events}
 use Rattle.layout.specs.Listing.{Page, on, off, refused, stopAt, offs, passStop, walk, pages}
-use Rattle.layout.specs.Demand.{rectAt, rectAtPlace, Across, Down, In, here, there, From, Rises, printedRecords, printed, placed, Tells, Measured, Divides, Stands}
+use Rattle.layout.specs.Demand.{Reads, rectAfter, justAfter, atPlace, rectAtPlace, justAtPlace, Across, Down, In, here, there, From, Rises, printedRecords, printed, placed, Tells, Measured, Divides, Stands}
 use Rattle.layout.proofs.Geometry.{next-left, from-rises}
 use Rattle.layout.proofs.PassLaws.{Grid, Even, or-none, in-select, same-refl, across, down, spacing}
-use Rattle.layout.proofs.RectLaws.{read-known, rises-low}
-use Rattle.layout.proofs.Cover.{Runs, entries, printedEntries, Part, none-of, skip, both, starts, itemStarts, Covers, EachPass, Honest, read-covers, read-grid, whole-grid}
-use Rattle.layout.proofs.Items.{items-honest, items-printed, items-rise}
+use Rattle.layout.proofs.RectLaws.{Seen, read-known, rises-low}
+use Rattle.layout.proofs.Cover.{Runs, entries, printedEntries, Part, none-of, skip, both, starts, itemStarts, Covers, EachPass, EventsAs, refused-at-once, begun, events-as, read-covers, read-grid, whole-grid}
+use Rattle.layout.proofs.Items.{items-honest, slices-read, items-printed, items-rise}
 
 -- ---- pages
 
@@ -257,14 +258,15 @@ module _ (c : Config) (fs : List Font) (msg : List ℕ) where
       }
 
   abbrev Known : Rect → List Entry → Type 0
-  Known r es = (e : Entry) → In e es → r ≡ rectAt c (whole c) (items msg) (e .start)
+  Known r es = (e : Entry) → In e es → Seen c (rectAtPlace c msg) (justAtPlace c msg) r e
 
   pass-fine : (r : Rect) (es : List Entry) → Grid c r → Known r es → passFault s r es ≡ none → Stands c fs msg r es
   unfolding passFault recordOf boardOf
   pass-fine r es g k q =
       let h : firstFault (spanFault s r es) es ≡ none = (or-none _ _ q) .1 in
       record {
-        rect = λ e i. k e i;
+        rect = λ e i. (k e i) .rect;
+        just = λ e i. (k e i) .just;
         tells = λ e i. tells r es e;
         measured = λ e i. measured r es e i (first-none (spanFault s r es) i h);
         across = λ e i. across s r es e g i (first-none (spanFault s r es) i h);
@@ -288,43 +290,39 @@ module _ (c : Config) (fs : List Font) (msg : List ℕ) where
         let w : Stands c fs msg (o .rect) (o .spans) = h (o .rect) (o .spans) (o .in-pass) in
         rw (o .is, (w .tells (o .span) (o .in-spans)) .start, ← w .rect (o .span) (o .in-spans)) (w .across (o .span) (o .in-spans))
 
-    record-down : (q : Span) → In q (placed s evs) → Divides c fs → Down (rectAtPlace c msg (q .start)) q
+    record-down : (q : Span) → In q (placed s evs) → (justAtPlace c msg (q .start) ≡ 3 → Divides c fs) → Down (rectAtPlace c msg (q .start)) q
     unfolding recordOf
     record-down q i d =
         let o : Origin s evs q = placed-in s evs i in
         let w : Stands c fs msg (o .rect) (o .spans) = h (o .rect) (o .spans) (o .in-pass) in
-        rw (o .is, (w .tells (o .span) (o .in-spans)) .start, ← w .rect (o .span) (o .in-spans)) (w .down (o .span) (o .in-spans) (λ z. d))
-
-stopped-runs : (f : Option Refusal) (l : List Event) → Runs (stopIf f l) → (stopIf f l ≡ l) × Runs l
-stopped-runs none l h = (refl, h)
-stopped-runs (some r) l h = absurd h
+        let start : q .start ≡ o .span .start = ap (λ (x : Span). x .start) (o .is) in
+        let j : justAtPlace c msg (q .start) ≡ o .span .state .«just_page» = ap (justAtPlace c msg) start ∙ sym (w .just (o .span) (o .in-spans)) in
+        rw (o .is, (w .tells (o .span) (o .in-spans)) .start, ← w .rect (o .span) (o .in-spans)) (w .down (o .span) (o .in-spans) (λ z. d (j ∙ z)))
 
 -- what is known of the events of a message that is read without refusal
 record Read (c : Config) (its : List Item) (evs : List Event) : Type 0 where
   cover : Covers its [] (entries evs)
   grid : EachPass (λ r es. Grid c r) evs
-  rects : EachPass (λ r es. (e : Entry) → In e es → r ≡ rectAt c (whole c) its (e .start)) evs
+  known : EachPass (λ r es. (e : Entry) → In e es → Seen c (atPlace (rectAfter c) (whole c) its) (atPlace (justAfter c) (c .«page_just») its) r e) evs
 
-events-read : (msg : List ℕ) (c : Config) (its : List Item) → Honest its → Rises (itemStarts its) → Runs (events c its) → Read c its (events c its)
-unfolding events
-events-read msg c its v u h =
-    let o : Scan = opening c its in
-    let (e, h′) = stopped-runs (o .fault) (read c its (o .on) (o .off) (start c) true []) h in
-    rw e
-    (record {
-      cover = read-covers msg c its (o .on) (o .off) (start c) true [] v h′;
-      grid = read-grid msg c its (o .on) (o .off) (start c) true [] v (whole-grid c);
-      rects = read-known msg c (rectAt c (whole c) its) 0 its (o .on) (o .off) (start c) true [] v (rises-low its u) (λ n _. refl) (λ e i. elim i [ ]);
-    })
+events-read : {c : Config} {its : List Item} {l : List Event} → EventsAs c its l → Rises (itemStarts its) → Runs l → Read c its l
+events-read (refused-at-once a b e) u n = absurd n
+events-read {c = c} {its = its} (begun r) u n =
+    record {
+      cover = read-covers r n;
+      grid = read-grid r (whole-grid c);
+      known = read-known c _ _ r (rises-low its u) (record { rect = record { at = λ n _. refl }; just = record { at = λ n _. refl } }) (λ e i. elim i [ ]);
+    }
 
 -- demand 3 of the pages of a message
 pub record Told (c : Config) (fs : List Font) (msg : List ℕ) (qs : List Span) : Type 0 where
+  pub reads : (s : Slice) → In s (slices msg) → Reads (itemOf (s .start) (s .bytes))
   pub printing : printedRecords qs ≡ printed (slices msg)
   pub rising : Rises (map (λ q. q .start) qs)
   pub listed : qs ≡ placed (boardOf msg c fs) (events c (items msg))
   pub passes : (r : Rect) (es : List Entry) → In (pass r es) (events c (items msg)) → Stands c fs msg r es
   pub inside : (q : Span) → In q qs → Across (rectAtPlace c msg (q .start)) q
-  pub inside-down : (q : Span) → In q qs → Divides c fs → Down (rectAtPlace c msg (q .start)) q
+  pub inside-down : (q : Span) → In q qs → (justAtPlace c msg (q .start) ≡ 3 → Divides c fs) → Down (rectAtPlace c msg (q .start)) q
 
 pub told : (c : Config) (fs : List Font) (msg : List ℕ) → NoRefusal (pages (boardOf msg c fs) (items msg))
     → Told c fs msg (records (pages (boardOf msg c fs) (items msg)))
@@ -335,10 +333,12 @@ told c fs msg h =
     let evs : List Event = events c its in
     let o : Scan = opening c its in
     let w : Walked s evs [] (pages s its) = walked s evs (o .on) (o .off) [] 0 h in
-    let k : Read c its evs = events-read msg c its (items-honest msg) (items-rise msg) (w .runs) in
-    let f : (r : Rect) (es : List Entry) → In (pass r es) evs → Stands c fs msg r es = λ r es i. each-fine c fs msg evs (k .grid) (k .rects) (w .fine) i in
+    let k : Read c its evs = events-read (events-as c its (items-honest msg)) (items-rise msg) (w .runs) in
+    let f : (r : Rect) (es : List Entry) → In (pass r es) evs → Stands c fs msg r es = λ r es i. each-fine c fs msg evs (k .grid) (k .known) (w .fine) i in
+    let reads : (s : Slice) → In s (slices msg) → Reads (itemOf (s .start) (s .bytes)) = slices-read msg (k .cover .reads) in
     record {
-      printing = ap printedRecords (w .listed) ∙ placed-printed s evs ∙ ap printedEntries (k .cover .all) ∙ k .cover .prints ∙ items-printed msg;
+      reads = reads;
+      printing = ap printedRecords (w .listed) ∙ placed-printed s evs ∙ ap printedEntries (k .cover .all) ∙ k .cover .prints ∙ items-printed msg reads;
       rising = rw (w .listed, placed-starts s evs, k .cover .all) (part-rises (k .cover .order) (items-rise msg));
       listed = w .listed;
       passes = f;

@@ -1,13 +1,24 @@
--- The place of a refusal lies within the message.
-use Prim.Native.Nat.{ℕ, zero, suc, _+_, _≤_}
+-- The place of a refusal lies within the message, that of 1 within the sign file; 1 to 3 do not depend on the slice.
+use Prim.Native.Nat.{ℕ, zero, suc, _+_, _≤_, _<_}
 use native.Mathlib.Omega.{arith}
-use mathlib.Core.Path.{_≡_, sym, _∙_}
+use mathlib.Core.Path.{_≡_, refl, sym, ap, _∙_}
 use mathlib.Core.Bool.{Bool, true, false, not}
 use mathlib.Core.Option.{Option, none, some}
 use mathlib.Core.List.{List, [], _∷_, _++_}
+use lib.Dec.{ltb, eqb}
+use borrow.Author.Tests.{ne-eqb}
 use lib.ListN.{length}
+use Rattle.base.specs.Pick.{pick}
+use Rattle.utf8.specs.Utf8.{wellFormed}
+use Rattle.value.specs.declared.OptNum.{OptNum}
+use Rattle.value.specs.declared.OptNum.the-variants.{Some, None}
+use Rattle.value.specs.declared.Value.{Value}
+use Rattle.value.specs.declared.Value.the-variants.{ColorBackground, ColorForeground, ColorRectangle, Field, Flash, FlashEnd, Font as SetFont, Graphic, HexadecimalCharacter, JustificationLine, JustificationPage, ManufacturerSpecific, ManufacturerSpecificEnd, MovingText, NewLine, NewPage, PageBackground, PageTime, SpacingCharacter, SpacingCharacterEnd, Text, TextRectangle}
+use Rattle.value.specs.Tag.{tagOf, hasTag}
+use Rattle.reading.specs.declared.Item.{Item as Said}
+use Rattle.reading.specs.declared.Item.the-variants.{Is, Fails}
 use Rattle.records.specs.declared.Config.{Config}
-use Rattle.sign.specs.Sign.{Font, Accepted, signFile}
+use Rattle.sign.specs.Sign.{Font, Sign, Accepted, RefusedAt, signFile}
 use Rattle.reading.specs.declared.Refusal.{Refusal}
 use Rattle.layout.specs.declared.Span.{Span}
 use Rattle.layout.specs.declared.Answer.{Answer}
@@ -18,24 +29,118 @@ use Rattle.layout.specs.declared.Entry.{Entry}
 use Rattle.layout.specs.declared.Mark.{Mark}
 use Rattle.layout.specs.declared.Mark.the-variants.{Plain, Ends, Timed, Wrong}
 use Rattle.layout.specs.Types.{Item, items, refusal, Board}
-use Rattle.layout.specs.Fonts.{boardOf}
-use Rattle.layout.specs.Place.{orElse, unless, firstFault, faultAt, spanFault, goesBack, backFault, passFault, passRecords}
-use Rattle.layout.specs.declared.Step.{Step}
-use Rattle.layout.specs.declared.Step.the-variants.{Refuse, Go, Emit, Cut, Turn}
-use Rattle.layout.specs.Read.{markItem, scanBy, step, Scan, scan, Event, pass, close, stop, stopIf, newPage, start, follow, read, opening, events}
-use Rattle.layout.specs.Listing.{Page, on, off, refused, stopAt, offs, passStop, walk, pages, numbered, resultOn, listing}
-use Rattle.layout.proofs.Cover.{Fair, step-is-fair, Honest}
+use Rattle.font.specs.Table.{fontNumbered}
+use Rattle.measure.specs.declared.Measure.{Measure}
+use Rattle.measure.specs.declared.Measure.the-variants.{Width, Missing}
+use Rattle.layout.specs.Fonts.{versionFault, missing, measureIn, fontFaultIn, charFaultAfter, faultIn, meterOf, boardOf}
+use Rattle.layout.specs.Place.{orElse, unless, firstFault, group, page, faultAt, spanFault, goesBack, backFault, passFault, passRecords}
+use Rattle.layout.specs.Read.{tagged, markItem, scanBy, Scan, scan, Event, pass, close, stop, start, opening, events}
+use Rattle.layout.specs.Listing.{Page, on, off, refused, stopAt, offs, passStop, walk, pages, Result, numbered, refusing, resultOn, listing}
+use Rattle.layout.proofs.Cover.{Within, ReadAs, ends, refuses, goes, emits, cuts, turns, fails, EventsAs, refused-at-once, begun, events-as, Honest}
 use Rattle.layout.proofs.Checks.{accepted-result, answer-on}
+use Rattle.layout.proofs.SignPlace.{sign-start}
 use Rattle.layout.proofs.Items.{AllIn, items-honest, items-in}
+
+-- ---- numbers
+
+-- P holds of the fault, if there is one
+data Fault {A : Type 0} (P : A → Type 0) : Option A → Type 0 where
+  fine : Fault P none
+  faulty : {x : A} → P x → Fault P (some x)
+
+or-fault : {A : Type 0} {P : A → Type 0} {a b : Option A} → Fault P a → Fault P b → Fault P (orElse a b)
+unfolding orElse
+or-fault fine q = q
+or-fault (faulty h) q = faulty h
+
+first-fault : {A B : Type 0} {P : B → Type 0} (f : A → Option B) → ((a : A) → Fault P (f a)) → (l : List A) → Fault P (firstFault f l)
+first-fault f h [] = fine
+first-fault f h (a ∷ l) = or-fault (h a) (first-fault f h l)
+
+-- what the fonts say of a span has number 5 or more
+abbrev Late : Option (ℕ × ℕ) → Type 0
+Late = Fault (λ x. 4 < x .0)
+
+version-late : (o : OptNum) (f : Font) → Late (versionFault o f)
+version-late None f = fine
+version-late (Some v) f = go (eqb v (f .version))
+  where
+    go : (t : Bool) → Late (pick t none (some (11, 0)))
+    go true = fine
+    go false = faulty {x = (11, 0)} (omega arith)
+
+missing-late : (m : Measure) → Late (missing m)
+missing-late (Width w) = fine
+missing-late (Missing c) = faulty {x = (12, c)} (omega arith)
+
+module _ (msg : List ℕ) (e : Entry) where
+  font-late : (o : Option Font) → Late (fontFaultIn msg e o)
+  font-late none = faulty {x = (10, e .state .font)} (omega arith)
+  font-late (some f) = version-late (e .state .version) f
+
+  char-late : (x : Option (ℕ × ℕ)) (f : Font) → Late x → Late (charFaultAfter msg e x f)
+  char-late none f h = missing-late (measureIn msg e f)
+  char-late (some x) f h = h
+
+  fault-late : (o : Option Font) → Late (faultIn msg e o)
+  fault-late none = faulty {x = (10, e .state .font)} (omega arith)
+  fault-late (some f) = char-late (versionFault (e .state .version) f) f (version-late (e .state .version) f)
+
+-- of every span
+record LateFaults (s : Board) : Type 0 where
+  fault : (e : Entry) → Late (s .meter .fault e)
+  font : (e : Entry) → Late (s .meter .fontFault e)
+
+board-late : (msg : List ℕ) (c : Config) (fs : List Font) → LateFaults (boardOf msg c fs)
+unfolding boardOf meterOf
+board-late msg c fs =
+    record { fault = λ e. fault-late msg e (fontNumbered (e .state .font) fs); font = λ e. font-late msg e (fontNumbered (e .state .font) fs) }
+
+-- a slice that is wrong has number 5 or more
+abbrev LateMark : Mark → Type 0
+LateMark Plain = Unit {0}
+LateMark Ends = Unit {0}
+LateMark (Timed p q) = Unit {0}
+LateMark (Wrong n) = 4 < n
+
+tagged-late : (tags : ℕ) (v : Value) (m : Mark) → LateMark m → LateMark (tagged tags v m)
+tagged-late tags v m h = go (hasTag tags (tagOf v))
+  where
+    go : (t : Bool) → LateMark (pick t m (Wrong 5))
+    go true = h
+    go false = omega arith
+
+mark-late : (tags a n : ℕ) (x : Said) → Within a n x → LateMark (markItem tags x)
+mark-late tags a n (Is (ColorBackground c)) h = tagged-late tags (ColorBackground c) Plain tt
+mark-late tags a n (Is (ColorForeground c)) h = tagged-late tags (ColorForeground c) Plain tt
+mark-late tags a n (Is (ColorRectangle r c)) h = tagged-late tags (ColorRectangle r c) Plain tt
+mark-late tags a n (Is (Field k w)) h = tagged-late tags (Field k w) Plain tt
+mark-late tags a n (Is (Flash o p q)) h = tagged-late tags (Flash o p q) Plain tt
+mark-late tags a n (Is FlashEnd) h = tagged-late tags FlashEnd Plain tt
+mark-late tags a n (Is (SetFont f)) h = tagged-late tags (SetFont f) Plain tt
+mark-late tags a n (Is (Graphic k p)) h = tagged-late tags (Graphic k p) Plain tt
+mark-late tags a n (Is (HexadecimalCharacter c)) h = tagged-late tags (HexadecimalCharacter c) Plain tt
+mark-late tags a n (Is (JustificationLine j)) h = tagged-late tags (JustificationLine j) Plain tt
+mark-late tags a n (Is (JustificationPage j)) h = tagged-late tags (JustificationPage j) Plain tt
+mark-late tags a n (Is (ManufacturerSpecific m p)) h = tagged-late tags (ManufacturerSpecific m p) Plain tt
+mark-late tags a n (Is (ManufacturerSpecificEnd m p)) h = tagged-late tags (ManufacturerSpecificEnd m p) Plain tt
+mark-late tags a n (Is (MovingText m d t)) h = tagged-late tags (MovingText m d t) Plain tt
+mark-late tags a n (Is (NewLine l)) h = tagged-late tags (NewLine l) Plain tt
+mark-late tags a n (Is NewPage) h = tagged-late tags NewPage Ends tt
+mark-late tags a n (Is (PageBackground c)) h = tagged-late tags (PageBackground c) Plain tt
+mark-late tags a n (Is (PageTime p q)) h = tagged-late tags (PageTime p q) (Timed p q) tt
+mark-late tags a n (Is (SpacingCharacter c)) h = tagged-late tags (SpacingCharacter c) Plain tt
+mark-late tags a n (Is SpacingCharacterEnd) h = tagged-late tags SpacingCharacterEnd Plain tt
+mark-late tags a n (Is (Text p)) h = tt
+mark-late tags a n (Is (TextRectangle r)) h = tagged-late tags (TextRectangle r) Plain tt
+mark-late tags a n (Fails k) h = h
 
 -- top: the message's length
 module _ (top : ℕ) where
-  abbrev Inside : Refusal → Type 0
-  Inside r = r .start + r .length ≤ top
-
-  data Fault : Option Refusal → Type 0 where
-    fine : Fault none
-    faulty : {r : Refusal} → Inside r → Fault (some r)
+  -- a refusal after 4, with its place in the message
+  record Inside (r : Refusal) : Type 0 where
+    late : 4 < r .number
+    place : r .start + r .length ≤ top
 
   abbrev Spans : List Entry → Type 0
   Spans [] = Unit {0}
@@ -43,50 +148,54 @@ module _ (top : ℕ) where
 
   -- ---- a pass
 
-  or-fault : {a b : Option Refusal} → Fault a → Fault b → Fault (orElse a b)
-  unfolding orElse
-  or-fault fine q = q
-  or-fault (faulty h) q = faulty h
-
-  unless-fault : (t : Bool) (r : Refusal) → Inside r → Fault (unless t r)
+  unless-fault : (t : Bool) (r : Refusal) → Inside r → Fault Inside (unless t r)
   unfolding unless
   unless-fault true r h = fine
   unless-fault false r h = faulty h
 
-  back-fault : (p : Option Entry) (es : List Entry) → Spans es → Fault (backFault p es)
+  back-fault : (p : Option Entry) (es : List Entry) → Spans es → Fault Inside (backFault p es)
   back-fault p [] h = fine
   back-fault none (e ∷ es) h = back-fault (some e) es (h .1)
-  back-fault (some p) (e ∷ es) h = or-fault (unless-fault (not (goesBack p e)) _ (h .0)) (back-fault (some e) es (h .1))
+  back-fault (some p) (e ∷ es) h = or-fault (unless-fault (not (goesBack p e)) _ (record { late = omega arith; place = h .0 })) (back-fault (some e) es (h .1))
 
-  module _ (s : Board) (r : Rect) (all : List Entry) where
-    at-fault : (e : Entry) (x : Option (ℕ × ℕ)) → e .start + e .len ≤ top → Fault (faultAt s r all e x)
-    at-fault e none h = fine
-    at-fault e (some x) h = faulty h
+  module _ (s : Board) (b : LateFaults s) (r : Rect) (all : List Entry) where
+    at-fault : (e : Entry) (x : Option (ℕ × ℕ)) → e .start + e .len ≤ top → Late x → Fault Inside (faultAt s r all e x)
+    at-fault e none h l = fine
+    at-fault e (some x) h (faulty l) = faulty (record { late = l; place = h })
 
-    span-fault : (e : Entry) → e .start + e .len ≤ top → Fault (spanFault s r all e)
+    span-fault : (e : Entry) → e .start + e .len ≤ top → Fault Inside (spanFault s r all e)
     unfolding spanFault
-    span-fault e h = search (or-fault, at-fault, unless-fault) depth 12
+    span-fault e h =
+        let of-fonts : Late (firstFault (s .meter .fault) (group s r all e)) = first-fault (s .meter .fault) (b .fault) (group s r all e) in
+        let of-lines : Late (firstFault (s .meter .fontFault) (page s r all e)) = first-fault (s .meter .fontFault) (b .font) (page s r all e) in
+        let wide : Inside (refusal 13 (e .start) (e .len) 0) = record { late = omega arith; place = h } in
+        let low : Inside (refusal 14 (e .start) (e .len) 0) = record { late = omega arith; place = h } in
+        search (or-fault, at-fault, unless-fault) depth 12
 
-    spans-fault : (es : List Entry) → Spans es → Fault (firstFault (spanFault s r all) es)
+    spans-fault : (es : List Entry) → Spans es → Fault Inside (firstFault (spanFault s r all) es)
     spans-fault [] h = fine
     spans-fault (e ∷ es) h = or-fault (span-fault e (h .0)) (spans-fault es (h .1))
 
-  pass-fault : (s : Board) (n : ℕ) (r : Rect) (es : List Entry) → Spans es → Fault (passStop s n r es)
+  pass-fault : (s : Board) (b : LateFaults s) (n : ℕ) (r : Rect) (es : List Entry) → Spans es → Fault Inside (passStop s n r es)
   unfolding passFault
-  pass-fault s n r es h = or-fault (or-fault (back-fault none es h) (spans-fault s r es es h)) (unless-fault _ (refusal 15 0 0 0) (omega arith))
+  pass-fault s b n r es h =
+      or-fault (or-fault (back-fault none es h) (spans-fault s b r es es h))
+      (unless-fault _ (refusal 15 0 0 0) (record { late = omega arith; place = omega arith }))
 
   -- ---- a page's scan
 
-  scan-by : (s : Config) (a b : ℕ) (it : Item) (m : Mark) (next : ℕ → ℕ → Scan) → it .start + it .len ≤ top → ((p q : ℕ) → Fault ((next p q) .fault))
-      → Fault ((scanBy s a b it m next) .fault)
-  scan-by s a b it Plain next h k = k a b
-  scan-by s a b it Ends next h k = fine
-  scan-by s a b it (Timed p q) next h k = k _ _
-  scan-by s a b it (Wrong n) next h k = faulty h
+  scan-by : (s : Config) (a b : ℕ) (it : Item) (m : Mark) (next : ℕ → ℕ → Scan) → LateMark m → it .start + it .len ≤ top
+      → ((p q : ℕ) → Fault Inside ((next p q) .fault)) → Fault Inside ((scanBy s a b it m next) .fault)
+  scan-by s a b it Plain next l h k = k a b
+  scan-by s a b it Ends next l h k = fine
+  scan-by s a b it (Timed p q) next l h k = k _ _
+  scan-by s a b it (Wrong n) next l h k = faulty (record { late = l; place = h })
 
-  scan-fault : (s : Config) (a b : ℕ) (its : List Item) → AllIn top its → Fault ((scan s a b its) .fault)
-  scan-fault s a b [] h = fine
-  scan-fault s a b (it ∷ its) h = scan-by s a b it (markItem (s .tags) (it .says)) (λ p q. scan s p q its) (h .0) (λ p q. scan-fault s p q its (h .1))
+  scan-fault : (s : Config) (a b : ℕ) (its : List Item) → Honest its → AllIn top its → Fault Inside ((scan s a b its) .fault)
+  scan-fault s a b [] o h = fine
+  scan-fault s a b (it ∷ its) o h =
+      scan-by s a b it (markItem (s .tags) (it .says)) (λ p q. scan s p q its) (mark-late (s .tags) (it .start) (it .len) (it .says) (o .0)) (h .0)
+      (λ p q. scan-fault s p q its (o .1) (h .1))
 
   -- ---- the events of a message
 
@@ -96,31 +205,29 @@ module _ (top : ℕ) where
   Events (close a b ∷ evs) = Events evs
   Events (stop r ∷ evs) = Inside r × Events evs
 
-  events-stop : {f : Option Refusal} (l : List Event) → Fault f → Events l → Events (stopIf f l)
-  events-stop l fine h = h
-  events-stop l (faulty i) h = (i, tt)
-
   snoc-spans : (es : List Entry) (e : Entry) → Spans es → e .start + e .len ≤ top → Spans (es ++ (e ∷ []))
   snoc-spans [] e h p = (p, tt)
   snoc-spans (x ∷ es) e h p = (h .0, snoc-spans es e (h .1) p)
 
-  module _ (msg : List ℕ) (s : Config) (it : Item) (its : List Item) (i : it .start + it .len ≤ top) (is : AllIn top its)
-      (k : ℕ → ℕ → RenderState → Bool → List Entry → List Event) (hyp : (a b : ℕ) (st : RenderState) (bl : Bool) (acc : List Entry) → Spans acc → Events (k a b st bl acc)) where
-    follow-in : (a b : ℕ) (st : RenderState) (acc : List Entry) (t : Step) → Fair msg s st it t → Spans acc → Events (follow s a b st acc its k t)
-    follow-in a b st acc (Refuse r) f h = (omega (arith, f .0, f .1), tt)
-    follow-in a b st acc (Go st′ bl) f h = hyp a b st′ bl acc h
-    follow-in a b st acc (Emit e st′ bl) f h = hyp a b st′ bl (acc ++ (e ∷ [])) (snoc-spans acc e h (omega (arith, f .3, f .4)))
-    follow-in a b st acc (Cut st′) f h = (h, hyp a b st′ true [] tt)
-    follow-in a b st acc Turn f h =
-        let c : Scan = scan s a b its in
-        (h, events-stop (k (c .on) (c .off) (newPage s st) true []) (scan-fault s a b its is) (hyp (c .on) (c .off) (newPage s st) true [] tt))
+  scan-stop : (s : Config) (its : List Item) (a b : ℕ) (r : Refusal) → Honest its → AllIn top its → (scan s a b its) .fault ≡ some r → Inside r
+  scan-stop s its a b r o h e = look (rw e at (scan-fault s a b its o h))
+    where
+      look : Fault Inside (some r) → Inside r
+      look (faulty i) = i
 
-  read-in : (msg : List ℕ) (s : Config) (its : List Item) (a b : ℕ) (st : RenderState) (bl : Bool) (acc : List Entry) → Honest its → AllIn top its → Spans acc
-      → Events (read s its a b st bl acc)
-  read-in msg s [] a b st bl acc o h u = (u, tt)
-  read-in msg s (it ∷ its) a b st bl acc o h u =
-      follow-in msg s it its (h .0) (h .1) (read s its) (λ a b st bl acc u. read-in msg s its a b st bl acc (o .1) (h .1) u) a b st acc (step s st bl it)
-      (step-is-fair msg s st bl it (o .0)) u
+  read-in : {s : Config} {its : List Item} {st : RenderState} {acc : List Entry} {l : List Event} → ReadAs s its st acc l → Honest its
+      → AllIn top its → Spans acc → Events l
+  read-in ends o h u = (u, tt)
+  read-in (refuses f) o h u = (record { late = f .late; place = omega (arith, f .start, f .length) }, tt)
+  read-in (goes f q r) o h u = read-in r (o .1) (h .1) u
+  read-in (emits {acc = acc} {e = e} f q p r) o h u = read-in r (o .1) (h .1) (snoc-spans acc e u (omega (arith, p .start, p .len)))
+  read-in (cuts f q r) o h u = (u, read-in r (o .1) (h .1) tt)
+  read-in (turns f q r) o h u = (u, read-in r (o .1) (h .1) tt)
+  read-in {s = s} (fails {its = its} {r = r} f q x y e) o h u = (u, (scan-stop s its x y r (o .1) (h .1) e, tt))
+
+  events-in : {s : Config} {its : List Item} {l : List Event} → EventsAs s its l → Honest its → AllIn top its → Events l
+  events-in {s = s} {its = its} (refused-at-once {r = r} a b e) o h = (scan-stop s its a b r o h e, tt)
+  events-in (begun r) o h = read-in r o h tt
 
   -- ---- the pages
 
@@ -130,7 +237,7 @@ module _ (top : ℕ) where
   Pages (off d ∷ l) = Pages l
   Pages (refused r ∷ l) = Inside r × Pages l
 
-  pages-stop : {f : Option Refusal} (l : List Page) → Fault f → Pages l → Pages (stopAt f l)
+  pages-stop : {f : Option Refusal} (l : List Page) → Fault Inside f → Pages l → Pages (stopAt f l)
   pages-stop l fine h = h
   pages-stop l (faulty i) h = (i, tt)
 
@@ -138,12 +245,12 @@ module _ (top : ℕ) where
   pages-offs zero l h = h
   pages-offs (suc n) l h = h
 
-  walk-in : (s : Board) (evs : List Event) (a b : ℕ) (rs : List Span) (n : ℕ) → Events evs → Pages (walk s evs a b rs n)
-  walk-in s [] a b rs n h = pages-offs b [] tt
-  walk-in s (pass r es ∷ evs) a b rs n h =
-      pages-stop (walk s evs a b (rs ++ passRecords s r es) (suc n)) (pass-fault s n r es (h .0)) (walk-in s evs a b (rs ++ passRecords s r es) (suc n) (h .1))
-  walk-in s (close p q ∷ evs) a b rs n h = pages-offs b _ (walk-in s evs p q [] 0 h)
-  walk-in s (stop r ∷ evs) a b rs n h = (h .0, tt)
+  walk-in : (s : Board) (m : LateFaults s) (evs : List Event) (a b : ℕ) (rs : List Span) (n : ℕ) → Events evs → Pages (walk s evs a b rs n)
+  walk-in s m [] a b rs n h = pages-offs b [] tt
+  walk-in s m (pass r es ∷ evs) a b rs n h =
+      pages-stop _ (pass-fault s m n r es (h .0)) (walk-in s m evs a b (rs ++ passRecords s r es) (suc n) (h .1))
+  walk-in s m (close p q ∷ evs) a b rs n h = pages-offs b _ (walk-in s m evs p q [] 0 h)
+  walk-in s m (stop r ∷ evs) a b rs n h = (h .0, tt)
 
   -- ---- one call
 
@@ -162,22 +269,81 @@ module _ (top : ℕ) where
   numbered-in c (off d ∷ l) (suc n) h = numbered-in (suc c) l n h
   numbered-in c (refused r ∷ l) (suc n) h = h .0
 
-pages-in : (msg : List ℕ) (s : Board) → Pages (length msg) (pages s (items msg))
-unfolding pages events opening
-pages-in msg s =
-    let c : Scan = scan (s .config) (s .config .«on_time») (s .config .«off_time») (items msg) in
-    walk-in (length msg) s (events (s .config) (items msg)) (c .on) (c .off) [] 0
-    (events-stop (length msg) (read (s .config) (items msg) (c .on) (c .off) (start (s .config)) true [])
-    (scan-fault (length msg) (s .config) (s .config .«on_time») (s .config .«off_time») (items msg) (items-in msg))
-    (read-in (length msg) msg (s .config) (items msg) (c .on) (c .off) (start (s .config)) true [] (items-honest msg) (items-in msg) tt))
+pages-in : (msg : List ℕ) (s : Board) → LateFaults s → Pages (length msg) (pages s (items msg))
+unfolding pages
+pages-in msg s m =
+    let o : Scan = opening (s .config) (items msg) in
+    let h : Honest (items msg) = items-honest msg in
+    walk-in (length msg) s m (events (s .config) (items msg)) (o .on) (o .off) [] 0
+    (events-in (length msg) (events-as (s .config) (items msg) h) h (items-in msg))
 
-call-in : (c : Config) (fs : List Font) (msg : List ℕ) (n room : ℕ) → Placed (length msg) ((resultOn (Accepted c fs) msg n room) .answer)
-call-in c fs msg n room =
-    accepted-result msg n room (λ r. Placed (length msg) (r .answer)) c fs (λ k. omega arith)
-    (λ p q. numbered-in (length msg) 0 (pages (boardOf msg c fs) (items msg)) n (pages-in msg (boardOf msg c fs)))
+answers-in : (c : Config) (fs : List Font) (msg : List ℕ) (n : ℕ) → Placed (length msg) ((numbered 0 (pages (boardOf msg c fs) (items msg)) n) .answer)
+answers-in c fs msg n = numbered-in (length msg) 0 (pages (boardOf msg c fs) (items msg)) n (pages-in msg (boardOf msg c fs) (board-late msg c fs))
 
--- "get pages or a numbered refusal with its place"
-pub refusal-in : (file msg : List ℕ) (c : Config) (fs : List Font) → signFile file ≡ Accepted c fs → (n : ℕ) (lent : List Span) (r : Refusal)
-    → listing file msg n lent ≡ Refused r → r .start + r .length ≤ length msg
-refusal-in file msg c fs e n lent r q =
-    rw (sym (answer-on file msg n lent (Accepted c fs) e) ∙ q) at (call-in c fs msg n (length lent))
+-- ---- 1 to 3
+
+refusing-number : (k start : ℕ) (x : Refusal) → (refusing k start) .answer ≡ Refused x → x .number ≡ k
+refusing-number k start x e = let q : refusal k start 0 0 ≡ x = cc in ap (λ (r : Refusal). r .number) (sym q)
+
+answers-late : (c : Config) (fs : List Font) (msg : List ℕ) (n : ℕ) (x : Refusal) → (numbered 0 (pages (boardOf msg c fs) (items msg)) n) .answer ≡ Refused x
+    → Inside (length msg) x
+answers-late c fs msg n x e = rw e at (answers-in c fs msg n)
+
+result-early : (s : Sign) (msg : List ℕ) (n m p q : ℕ) (x : Refusal) → x .number ≤ 3 → (resultOn s msg n p) .answer ≡ Refused x
+    → (resultOn s msg m q) .answer ≡ Refused x
+result-early (RefusedAt start) msg n m p q x h e = e
+result-early (Accepted c fs) msg n m p q x h e = look (ltb 2048 (length msg)) (wellFormed msg) (ltb p 1400) e
+  where
+    at : ℕ → Result
+    at k = numbered 0 (pages (boardOf msg c fs) (items msg)) k
+
+    look : (t u v : Bool) → (pick t (refusing 2 0) (pick u (pick v (refusing 4 0) (at n)) (refusing 3 0))) .answer ≡ Refused x
+        → (pick t (refusing 2 0) (pick u (pick (ltb q 1400) (refusing 4 0) (at m)) (refusing 3 0))) .answer ≡ Refused x
+    look true u v d = d
+    look false false v d = d
+    look false true true d = absurd (omega (arith, refusing-number 4 0 x d))
+    look false true false d = absurd (omega (arith, (answers-late c fs msg n x d) .late))
+
+pub early : (file msg : List ℕ) (n m : ℕ) (a b : List Span) (x : Refusal) → x .number ≤ 3 → listing file msg n a ≡ Refused x → listing file msg m b ≡ Refused x
+early file msg n m a b x h e =
+    let s : Sign = signFile file in
+    answer-on file msg m b s refl ∙ result-early s msg n m (length a) (length b) x h (sym (answer-on file msg n a s refl) ∙ e)
+
+-- ---- a refusal's place
+
+-- within the message, of a sign file that is accepted
+record Elsewhere (msg : List ℕ) (x : Refusal) : Type 0 where
+  later : 1 < x .number
+  place : x .start + x .length ≤ length msg
+
+accepted-place : (c : Config) (fs : List Font) (msg : List ℕ) (n room : ℕ) (x : Refusal) → (resultOn (Accepted c fs) msg n room) .answer ≡ Refused x
+    → Elsewhere msg x
+accepted-place c fs msg n room x =
+    accepted-result msg n room (λ r. r .answer ≡ Refused x → Elsewhere msg x) c fs
+    (λ k h e. let q : refusal k 0 0 0 ≡ x = cc in rw (← q) (record { later = h; place = omega arith }))
+    (λ p q e. let i : Inside (length msg) x = answers-late c fs msg n x e in record { later = omega (arith, i .late); place = i .place })
+
+module _ (file msg : List ℕ) (n : ℕ) (lent : List Span) (x : Refusal) (e : listing file msg n lent ≡ Refused x) where
+  refused-is : (start : ℕ) → signFile file ≡ RefusedAt start → refusal 1 start 0 0 ≡ x
+  refused-is start q =
+      let d : Refused (refusal 1 start 0 0) ≡ Refused x = sym (answer-on file msg n lent (RefusedAt start) q) ∙ e in
+      cc
+
+  accepted-is : (c : Config) (fs : List Font) → signFile file ≡ Accepted c fs → Elsewhere msg x
+  accepted-is c fs q = accepted-place c fs msg n (length lent) x (sym (answer-on file msg n lent (Accepted c fs) q) ∙ e)
+
+  pub places : x .start + x .length ≤ length (pick (eqb (x .number) 1) file msg)
+  places = look (signFile file) refl
+    where
+      look : (s : Sign) → signFile file ≡ s → x .start + x .length ≤ length (pick (eqb (x .number) 1) file msg)
+      look (RefusedAt start) q = rw (← refused-is start q) (omega (arith, sign-start file start q))
+      look (Accepted c fs) q =
+          let i : Elsewhere msg x = accepted-is c fs q in
+          rw (ne-eqb (x .number) 1 (λ z. omega (arith, i .later))) (i .place)
+
+  pub sign : x .number ≡ 1 → signFile file ≡ RefusedAt (x .start)
+  sign one = look (signFile file) refl
+    where
+      look : (s : Sign) → signFile file ≡ s → signFile file ≡ RefusedAt (x .start)
+      look (RefusedAt start) q = q ∙ ap (λ (r : Refusal). RefusedAt (r .start)) (refused-is start q)
+      look (Accepted c fs) q = absurd (omega (arith, (accepted-is c fs q) .later))

@@ -1,23 +1,18 @@
--- A pass's rectangle is that of the last [tr] before each of its spans, on their page; and each span has its text.
-use Prim.Native.Nat.{ℕ, suc, _+_, _≤_, _<_}
+-- The text rectangle and the page justification at a place of the message are those that reading its spans has.
+use Prim.Native.Nat.{ℕ, suc, _+_, _≤_}
 use native.Mathlib.Nat.{le-refl}
 use native.Mathlib.Omega.{arith}
 use mathlib.Core.Path.{_≡_, sym, ap, _∙_}
-use mathlib.Core.Bool.{Bool, true}
-use mathlib.Core.Option.{Option, none, some}
 use mathlib.Core.List.{List, [], _∷_, _++_}
 use borrow.Author.Tests.{le-leb, lt-leb}
-use Rattle.reading.specs.declared.Refusal.{Refusal}
 use Rattle.records.specs.declared.Config.{Config}
 use Rattle.layout.specs.declared.Rect.{Rect}
 use Rattle.layout.specs.declared.RenderState.{RenderState}
 use Rattle.layout.specs.declared.Entry.{Entry}
 use Rattle.layout.specs.Types.{Item}
-use Rattle.layout.specs.Demand.{rectAfter, rectAt, roleIn, In, here, there, From, Rises}
-use Rattle.layout.specs.declared.Step.{Step}
-use Rattle.layout.specs.declared.Step.the-variants.{Refuse, Go, Emit, Cut, Turn}
-use Rattle.layout.specs.Read.{step, Scan, scan, Event, stopIf, whole, newPage, start, follow, read}
-use Rattle.layout.proofs.Cover.{Fair, step-is-fair, itemStarts, EachPass, Honest}
+use Rattle.layout.specs.Demand.{Role, atPlace, rectAfter, justAfter, roleIn, In, here, there, From, Rises}
+use Rattle.layout.specs.Read.{Event}
+use Rattle.layout.proofs.Cover.{Taken, SpanOf, ReadAs, ends, refuses, goes, emits, cuts, turns, fails, itemStarts, EachPass}
 
 -- the starts rise strictly from lo on
 abbrev pub Low : ℕ → List Item → Type 0
@@ -32,58 +27,66 @@ pub rises-low : (its : List Item) → Rises (itemStarts its) → Low 0 its
 rises-low [] f = tt
 rises-low (it ∷ its) f = (omega arith, from-low (it .start) its f)
 
-rect-here : (s : Config) (r : Rect) (it : Item) (its : List Item) → rectAt s r (it ∷ its) (it .start) ≡ r
-rect-here s r it its = rw (le-leb (it .start) (it .start) (le-refl _))
-
-rect-past : (s : Config) (r : Rect) (it : Item) (its : List Item) (n : ℕ) → it .start < n → rectAt s r (it ∷ its) n ≡ rectAt s (rectAfter s r (roleIn (it .says))) its n
-rect-past s r it its n h = rw (lt-leb n (it .start) h)
-
 in-snoc : {e : Entry} (l : List Entry) (a : Entry) (P : Entry → Type 0) → ((c : Entry) → In c l → P c) → P a → In e (l ++ (a ∷ [])) → P e
 in-snoc [] a P f p here = p
 in-snoc (c ∷ l) a P f p here = f c here
 in-snoc (c ∷ l) a P f p (there i) = in-snoc l a P (λ d j. f d (there j)) p i
 
--- F: the rectangle at each position of the whole message
-module _ (msg : List ℕ) (s : Config) (F : ℕ → Rect) where
+-- ---- what holds at a place
+
+-- F: what holds at each place of the whole message; from lo on, what is left of it agrees
+module _ {A : Type 0} (next : A → Role → A) (F : ℕ → A) where
+  pub record Agrees (lo : ℕ) (a : A) (its : List Item) : Type 0 where
+    pub at : (n : ℕ) → lo ≤ n → F n ≡ atPlace next a its n
+
+  module _ {lo : ℕ} {a : A} {it : Item} {its : List Item} (h : lo ≤ it .start) (t : Agrees lo a (it ∷ its)) where
+    agrees-here : F (it .start) ≡ a
+    agrees-here = rw (le-leb (it .start) (it .start) (le-refl _)) at (t .at (it .start) h)
+
+    agrees-next : {b : A} → next a (roleIn (it .says)) ≡ b → Agrees (suc (it .start)) b its
+    agrees-next e =
+        record { at = λ n m. rw (lt-leb n (it .start) m) at (t .at n (omega arith)) ∙ ap (λ (x : A). atPlace next x its n) e }
+
+-- R and J: the rectangle and the page justification at each place of the whole message
+module _ (s : Config) (R : ℕ → Rect) (J : ℕ → ℕ) where
+  -- a span in a pass of the rectangle r
+  pub record Seen (r : Rect) (e : Entry) : Type 0 where
+    pub rect : r ≡ R (e .start)
+    pub just : e .state .«just_page» ≡ J (e .start)
+
   abbrev Known : Rect → List Entry → Type 0
-  Known r es = (e : Entry) → In e es → (r ≡ F (e .start))
+  Known r es = (e : Entry) → In e es → Seen r e
 
-  -- from lo on, what is left of the message tells F
-  abbrev Tells : ℕ → Rect → List Item → Type 0
-  Tells lo r its = (n : ℕ) → lo ≤ n → F n ≡ rectAt s r its n
+  pub record Rest (lo : ℕ) (st : RenderState) (its : List Item) : Type 0 where
+    pub rect : Agrees (rectAfter s) R lo (st .rect) its
+    pub just : Agrees (justAfter s) J lo (st .«just_page») its
 
-  none-known : (r : Rect) → Known r []
-  none-known r e i = elim i [ ]
+  module _ {lo : ℕ} {it : Item} {its : List Item} {st : RenderState} (h : lo ≤ it .start) (t : Rest lo st (it ∷ its)) where
+    rest-next : {st′ : RenderState} {es : List Entry} → Taken s st it st′ es → Rest (suc (it .start)) st′ its
+    rest-next f = record { rect = agrees-next (rectAfter s) R h (t .rect) (f .rect); just = agrees-next (justAfter s) J h (t .just) (f .just) }
 
-  known-stop : (f : Option Refusal) (l : List Event) → EachPass Known l → EachPass Known (stopIf f l)
-  known-stop none l h = h
-  known-stop (some r) l h = tt
+    seen : {e : Entry} → SpanOf st it e → Seen (st .rect) e
+    seen o =
+        record {
+          rect = rw (o .start) (sym (agrees-here (rectAfter s) R h (t .rect)));
+          just = rw (o .start, o .state) (sym (agrees-here (justAfter s) J h (t .just)));
+        }
 
-  module _ (it : Item) (its : List Item) (k : ℕ → ℕ → RenderState → Bool → List Entry → List Event)
-      (hyp : (a b : ℕ) (st : RenderState) (bl : Bool) (acc : List Entry) → Tells (suc (it .start)) (st .rect) its → Known (st .rect) acc → EachPass Known (k a b st bl acc)) where
-    next : (lo : ℕ) (r r′ : Rect) → lo ≤ it .start → rectAfter s r (roleIn (it .says)) ≡ r′ → Tells lo r (it ∷ its) → Tells (suc (it .start)) r′ its
-    next lo r r′ h e t n m = t n (omega arith) ∙ rect-past s r it its n m ∙ ap (λ (x : Rect). rectAt s x its n) e
+  none-known : {r : Rect} → Known r []
+  none-known e i = elim i [ ]
 
-    follow-known : (lo a b : ℕ) (st : RenderState) (acc : List Entry) (t : Step) → lo ≤ it .start → Fair msg s st it t → Tells lo (st .rect) (it ∷ its) → Known (st .rect) acc
-        → EachPass Known (follow s a b st acc its k t)
-    follow-known lo a b st acc (Refuse r) h f t u = tt
-    follow-known lo a b st acc (Go st′ bl) h f t u =
-        hyp a b st′ bl acc (next lo (st .rect) (st′ .rect) h (f .1 ∙ sym (f .0)) t) (λ e i. f .0 ∙ u e i)
-    follow-known lo a b st acc (Emit e st′ bl) h f t u =
-        hyp a b st′ bl (acc ++ (e ∷ [])) (next lo (st .rect) (st′ .rect) h (f .1 ∙ sym (f .0)) t)
-        (λ c i.
-        let k : st .rect ≡ F (c .start) =
-        in-snoc acc e (λ d. st .rect ≡ F (d .start)) u (sym (ap F (f .3) ∙ t (it .start) h ∙ rect-here s (st .rect) it its)) i in
-        f .0 ∙ k)
-    follow-known lo a b st acc (Cut st′) h f t u =
-        (u, hyp a b st′ true [] (next lo (st .rect) (st′ .rect) h (f .1) t) (none-known (st′ .rect)))
-    follow-known lo a b st acc Turn h f t u =
-        let c : Scan = scan s a b its in
-        (u, known-stop (c .fault) _ (hyp (c .on) (c .off) (newPage s st) true [] (next lo (st .rect) (whole s) h (f .0) t) (none-known (whole s))))
+  same-known : {r r′ : Rect} {es : List Entry} → r′ ≡ r → Known r es → Known r′ es
+  same-known q u = rw q u
 
-  pub read-known : (lo : ℕ) (its : List Item) (a b : ℕ) (st : RenderState) (bl : Bool) (acc : List Entry) → Honest its → Low lo its → Tells lo (st .rect) its → Known (st .rect) acc
-      → EachPass Known (read s its a b st bl acc)
-  read-known lo [] a b st bl acc o h t u = (u, tt)
-  read-known lo (it ∷ its) a b st bl acc o h t u =
-      follow-known it its (read s its) (λ a b st bl acc t u. read-known (suc (it .start)) its a b st bl acc (o .1) (h .1) t u) lo a b st acc (step s st bl it) (h .0)
-      (step-is-fair msg s st bl it (o .0)) t u
+  more-known : {r : Rect} (es : List Entry) {e : Entry} → Known r es → Seen r e → Known r (es ++ (e ∷ []))
+  more-known {r = r} es {e = e} u z c i = in-snoc es e (Seen r) u z i
+
+  pub read-known : {lo : ℕ} {its : List Item} {st : RenderState} {acc : List Entry} {l : List Event} → ReadAs s its st acc l → Low lo its → Rest lo st its
+      → Known (st .rect) acc → EachPass Known l
+  read-known ends h t u = (u, tt)
+  read-known (refuses f) h t u = tt
+  read-known (goes f q r) h t u = read-known r (h .1) (rest-next (h .0) t f) (same-known q u)
+  read-known (emits {acc = acc} f q o r) h t u = read-known r (h .1) (rest-next (h .0) t f) (same-known q (more-known acc u (seen (h .0) t o)))
+  read-known (cuts f q r) h t u = (u, read-known r (h .1) (rest-next (h .0) t f) none-known)
+  read-known (turns f q r) h t u = (u, read-known r (h .1) (rest-next (h .0) t f) none-known)
+  read-known (fails f q x y e) h t u = (u, tt)

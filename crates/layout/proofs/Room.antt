@@ -2,7 +2,6 @@
 use Prim.Native.Nat.{ℕ, zero, suc, _+_, _≤_}
 use native.Mathlib.Omega.{arith}
 use mathlib.Core.Path.{_≡_, refl, ap}
-use mathlib.Core.Bool.{Bool, true}
 use mathlib.Core.Option.{Option, none, some}
 use mathlib.Core.List.{List, [], _∷_, _++_, map}
 use lib.ListN.{length, drop, length-append, length-drop}
@@ -17,46 +16,27 @@ use Rattle.records.specs.declared.Config.{Config}
 use Rattle.layout.specs.Types.{Item, items, Board}
 use Rattle.layout.specs.Fonts.{boardOf}
 use Rattle.layout.specs.Place.{passRecords, recordOf}
-use Rattle.layout.specs.declared.Step.{Step}
-use Rattle.layout.specs.declared.Step.the-variants.{Refuse, Go, Emit, Cut, Turn}
-use Rattle.layout.specs.Read.{step, Scan, scan, Event, pass, close, stop, stopIf, newPage, start, follow, read, opening, events}
+use Rattle.layout.specs.Read.{Scan, Event, pass, close, stop, opening, events}
 use Rattle.layout.specs.Listing.{Page, on, off, refused, stopAt, offs, passStop, walk, pages, Result, numbered, resultOn, result, listing, after}
-use Rattle.layout.proofs.Cover.{Fair, step-is-fair, Honest, entries}
+use Rattle.layout.proofs.Cover.{ReadAs, ends, refuses, goes, emits, cuts, turns, fails, EventsAs, refused-at-once, begun, events-as, entries}
 use Rattle.layout.proofs.Checks.{any-result}
-use Rattle.layout.proofs.Items.{okays, items-honest, items-few}
+use Rattle.layout.proofs.Items.{okays, reads-okay, items-honest, items-few}
 
 -- ---- the spans of a message
 
-entries-stop : (f : Option Refusal) (l : List Event) → length (entries (stopIf f l)) ≤ length (entries l)
-entries-stop none l = omega arith
-entries-stop (some r) l = omega arith
+read-few : {s : Config} {its : List Item} {st : RenderState} {acc : List Entry} {l : List Event} → ReadAs s its st acc l
+    → length (entries l) ≤ length acc + okays its
+read-few (ends {acc = acc}) = omega (arith, length-append acc [])
+read-few (refuses f) = omega arith
+read-few (goes f q r) = omega (arith, read-few r)
+read-few (emits {it = it} {acc = acc} {e = e} f q o r) = omega (arith, read-few r, length-append acc (e ∷ []), reads-okay (it .says) (f .reads))
+read-few (cuts {acc = acc} {l = l} f q r) = omega (arith, read-few r, length-append acc (entries l))
+read-few (turns {acc = acc} {l = l} f q r) = omega (arith, read-few r, length-append acc (entries l))
+read-few (fails {acc = acc} f q x y e) = omega (arith, length-append acc [])
 
-module _ (msg : List ℕ) (s : Config) (it : Item) (its : List Item) (k : ℕ → ℕ → RenderState → Bool → List Entry → List Event)
-    (hyp : (a b : ℕ) (st : RenderState) (bl : Bool) (acc : List Entry) → length (entries (k a b st bl acc)) ≤ length acc + okays its) where
-  follow-few : (a b : ℕ) (st : RenderState) (acc : List Entry) (t : Step) → Fair msg s st it t
-      → length (entries (follow s a b st acc its k t)) ≤ length acc + okays (it ∷ its)
-  follow-few a b st acc (Refuse r) f = omega arith
-  follow-few a b st acc (Go st′ bl) f = omega (arith, hyp a b st′ bl acc)
-  follow-few a b st acc (Emit e st′ bl) f = omega (arith, hyp a b st′ bl (acc ++ (e ∷ [])), length-append acc (e ∷ []), f .5)
-  follow-few a b st acc (Cut st′) f = omega (arith, hyp a b st′ true [], length-append acc (entries (k a b st′ true [])))
-  follow-few a b st acc Turn f =
-      let c : Scan = scan s a b its in
-      let l : List Event = k (c .on) (c .off) (newPage s st) true [] in
-      omega (arith, length-append acc (entries (stopIf (c .fault) l)), entries-stop (c .fault) l, hyp (c .on) (c .off) (newPage s st) true [])
-
-read-few : (msg : List ℕ) (s : Config) (its : List Item) (a b : ℕ) (st : RenderState) (bl : Bool) (acc : List Entry) → Honest its
-    → length (entries (read s its a b st bl acc)) ≤ length acc + okays its
-read-few msg s [] a b st bl acc h = omega (arith, length-append acc [])
-read-few msg s (it ∷ its) a b st bl acc h =
-    follow-few msg s it its (read s its) (λ a b st bl acc. read-few msg s its a b st bl acc (h .1)) a b st acc (step s st bl it)
-    (step-is-fair msg s st bl it (h .0))
-
-events-few : (msg : List ℕ) (s : Config) → length (entries (events s (items msg))) ≤ okays (items msg)
-unfolding events
-events-few msg s =
-    let o : Scan = opening s (items msg) in
-    let l : List Event = read s (items msg) (o .on) (o .off) (start s) true [] in
-    omega (arith, entries-stop (o .fault) l, read-few msg s (items msg) (o .on) (o .off) (start s) true [] (items-honest msg))
+events-few : {s : Config} {its : List Item} {l : List Event} → EventsAs s its l → length (entries l) ≤ okays its
+events-few (refused-at-once a b e) = omega arith
+events-few (begun r) = omega (arith, read-few r)
 
 -- ---- the records of a page
 
@@ -108,7 +88,8 @@ unfolding pages
 pages-small msg s h n =
     let o : Scan = opening (s .config) (items msg) in
     numbered-small 1400 0 (pages s (items msg)) n
-    (walk-small 1400 s (events (s .config) (items msg)) (o .on) (o .off) [] 0 (omega (arith, events-few msg (s .config), items-few msg)))
+    (walk-small 1400 s (events (s .config) (items msg)) (o .on) (o .off) [] 0
+    (omega (arith, events-few (events-as (s .config) (items msg) (items-honest msg)), items-few msg)))
 
 -- ---- the slice after a call
 

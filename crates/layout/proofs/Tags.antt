@@ -28,12 +28,13 @@ use Rattle.tag.specs.declared.Parsed.{Parsed}
 use Rattle.tag.specs.declared.Parsed.the-variants.{Good, Unsupported, Bad}
 use Rattle.tag.specs.Tag.{newLine, newPage, font, justificationLine, justificationPage, pageTime, pageBackground, colorForeground, colorBackground, colorRectangle, textRectangle, spacingCharacter, hexadecimalCharacter, flashOn, flashOff, flashTime, field, graphicAt, graphic, spacingCharacterEnd, flashEnd}
 use Rattle.parse.specs.Parse.{placeOf, manufacturerSpecific, manufacturerSpecificEnd, movement, movementParts, movementOf, moved, movingTextMode, movingTextLinear, movingText, endName, firstName, nameBy, nameOf, nameLen, byName, tagValue}
-use Rattle.layout.specs.Demand.{Role, text, hexadecimal, rectangle, newPage as pageRole, other, roleOf}
+use Rattle.layout.specs.Demand.{Role, text, hexadecimal, rectangle, pageJust, newPage as pageRole, other, roleOf}
 
 abbrev pub NoText : Role → Type 0
 NoText (text p) = ⊥
 NoText hexadecimal = Unit {0}
 NoText (rectangle r) = Unit {0}
+NoText (pageJust j) = Unit {0}
 NoText pageRole = Unit {0}
 NoText other = Unit {0}
 

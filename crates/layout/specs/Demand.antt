@@ -10,6 +10,7 @@ use Rattle.base.specs.Pick.{pick}
 use Rattle.token.specs.declared.Shape.{Shape}
 use Rattle.token.specs.declared.Shape.the-variants.{Bracket, Tag, Stray, Text as TextShape}
 use Rattle.token.specs.Token.{Slice, shapeOf, slices}
+use Rattle.value.specs.declared.OptNum.{OptNum}
 use Rattle.value.specs.declared.Place.{Place}
 use Rattle.value.specs.declared.Rectangle.{Rectangle}
 use Rattle.value.specs.declared.Value.{Value}
@@ -88,6 +89,7 @@ pub data Role : Type 0 where
   text : Place → Role
   hexadecimal : Role
   rectangle : Rectangle → Role
+  pageJust : OptNum → Role
   newPage : Role
   other : Role
 
@@ -102,7 +104,7 @@ roleOf (Font f) = other
 roleOf (Graphic n p) = other
 roleOf (HexadecimalCharacter c) = hexadecimal
 roleOf (JustificationLine j) = other
-roleOf (JustificationPage j) = other
+roleOf (JustificationPage j) = pageJust j
 roleOf (ManufacturerSpecific m p) = other
 roleOf (ManufacturerSpecificEnd m p) = other
 roleOf (MovingText m d t) = other
@@ -119,21 +121,26 @@ abbrev pub roleIn : Said → Role
 roleIn (Is v) = roleOf v
 roleIn (Fails n) = other
 
+-- a slice reads: it has a value
+abbrev pub Reads : Said → Type 0
+Reads (Is v) = Unit {0}
+Reads (Fails n) = ⊥
+
 -- a tag prints if it is [hc]
 abbrev pub printedTag : Role → ℕ → ℕ → List (ℕ × ℕ)
 printedTag (text p) start len = []
 printedTag hexadecimal start len = (start, len) ∷ []
 printedTag (rectangle r) start len = []
+printedTag (pageJust j) start len = []
 printedTag newPage start len = []
 printedTag other start len = []
 
--- start and length of what a slice prints: "the message's text slices and [hc] tags (length 1 for [[ and ]])"; a slice that fails is refused
+-- start and length of what a slice prints, by its shape: "the message's text slices and [hc] tags (length 1 for [[ and ]])"
 abbrev pub printedSlice : Said → Shape → ℕ → ℕ → List (ℕ × ℕ)
-printedSlice (Fails n) shape start len = []
-printedSlice (Is v) Bracket start len = (start, 1) ∷ []
-printedSlice (Is v) Tag start len = printedTag (roleOf v) start len
-printedSlice (Is v) Stray start len = []
-printedSlice (Is v) TextShape start len = (start, len) ∷ []
+printedSlice x Bracket start len = (start, 1) ∷ []
+printedSlice x Tag start len = printedTag (roleIn x) start len
+printedSlice x Stray start len = []
+printedSlice x TextShape start len = (start, len) ∷ []
 
 abbrev pub printed : List Slice → List (ℕ × ℕ)
 printed [] = []
@@ -151,21 +158,37 @@ printedRecords (q ∷ qs) = printedBy (q .kind) (q .start) (q .length) ++ printe
 
 -- ---- where a span stands
 
+-- what holds at a place of the message, from what holds at its start: `next` is what a slice before the place makes of it
+abbrev pub atPlace : {A : Type 0} → (A → Role → A) → A → List Item → ℕ → A
+atPlace next a [] n = a
+atPlace next a (it ∷ its) n = pick (leb n (it .start)) a (atPlace next (next a (roleIn (it .says))) its n)
+
 -- the text rectangle after a slice: that of a [tr], "a zero size reaching to the sign's edge"; the whole sign on a new page; else as before
 abbrev pub rectAfter : Config → Rect → Role → Rect
 rectAfter s r (text p) = r
 rectAfter s r hexadecimal = r
 rectAfter s r (rectangle q) = rectOf s q
+rectAfter s r (pageJust j) = r
 rectAfter s r newPage = whole s
 rectAfter s r other = r
 
--- the text rectangle at a place of the message, from one at its start: "the last [tr] before it on its page"
-abbrev pub rectAt : Config → Rect → List Item → ℕ → Rect
-rectAt s r [] n = r
-rectAt s r (it ∷ its) n = pick (leb n (it .start)) r (rectAt s (rectAfter s r (roleIn (it .says))) its n)
-
+-- the text rectangle at a place of the message: "the last [tr] before it on its page .. or else the whole sign"
 abbrev pub rectAtPlace : Config → List ℕ → ℕ → Rect
-rectAtPlace c msg n = rectAt c (whole c) (items msg) n
+rectAtPlace c msg n = atPlace (rectAfter c) (whole c) (items msg) n
+
+-- the page justification after a slice (2 top, 3 middle, 4 bottom): that of a [jp], the sign's where it has no number; else as before, for with a new
+-- page "font, character spacing and justification carry on"
+abbrev pub justAfter : Config → ℕ → Role → ℕ
+justAfter s j (text p) = j
+justAfter s j hexadecimal = j
+justAfter s j (rectangle q) = j
+justAfter s j (pageJust n) = given n (s .«page_just»)
+justAfter s j newPage = j
+justAfter s j other = j
+
+-- the page justification at a place of the message: that of the last [jp] before it, or else the sign's
+abbrev pub justAtPlace : Config → List ℕ → ℕ → ℕ
+justAtPlace c msg n = atPlace (justAfter c) (c .«page_just») (items msg) n
 
 -- "Inside: x is at least the rectangle's x - 1, x + width at most the rectangle's x - 1 + its width"
 pub record Across (r : Rect) (q : Span) : Type 0 where
@@ -224,6 +247,8 @@ module _ (c : Config) (fs : List SignFont) (msg : List ℕ) (r : Rect) (es : Lis
   pub record Stands : Type 0 where
     -- "A span's text rectangle is the last [tr] before it on its page .. or else the whole sign"
     pub rect : (e : Entry) → In e es → r ≡ rectAtPlace c msg (e .start)
+    -- and its page justification that of the last [jp]
+    pub just : (e : Entry) → In e es → e .state .«just_page» ≡ justAtPlace c msg (e .start)
     pub tells : (e : Entry) → In e es → Tells r e (record-of e)
     pub measured : (e : Entry) → In e es → Measured msg fs e (record-of e)
     -- "each span lies inside its text rectangle on all four sides"; "For the top and bottom of middle placing this holds if" the height divides
@@ -241,12 +266,16 @@ pub record Demand3 (file msg : List ℕ) (lent : ℕ → List Span) (N : ℕ) : 
   pub accepted : signFile file ≡ Accepted config fonts
   -- "end with the count of answers"
   pub ends : listing file msg N (lent N) ≡ End N
+  -- no slice of the message fails
+  pub reads : (s : Slice) → In s (slices msg) → Reads (itemOf (s .start) (s .bytes))
   -- "each printed character stands in exactly one listed span, and the spans come in the message's order"
   pub printing : printedRecords (listed file msg lent 0 N) ≡ printed (slices msg)
   pub rising : Rises (map (λ q. q .start) (listed file msg lent 0 N))
   -- the records are those of the message's spans, pass by pass
   pub spans-listed : listed file msg lent 0 N ≡ placed (boardOf msg config fonts) (events config (items msg))
   pub passes : (r : Rect) (es : List Entry) → In (pass r es) (events config (items msg)) → Stands config fonts msg r es
-  -- and so each record lies inside the text rectangle at its place
+  -- and so "each span lies inside its text rectangle on all four sides"; "For the top and bottom of middle placing this holds if the character height
+  -- is 0 or divides every font height"
   pub inside : (q : Span) → In q (listed file msg lent 0 N) → Across (rectAtPlace config msg (q .start)) q
-  pub inside-down : (q : Span) → In q (listed file msg lent 0 N) → Divides config fonts → Down (rectAtPlace config msg (q .start)) q
+  pub inside-down : (q : Span) → In q (listed file msg lent 0 N) → (justAtPlace config msg (q .start) ≡ 3 → Divides config fonts)
+      → Down (rectAtPlace config msg (q .start)) q

@@ -30,7 +30,7 @@ use Rattle.layout.specs.declared.Step.{Step}
 use Rattle.layout.specs.declared.Step.the-variants.{Refuse}
 use Rattle.layout.specs.Types.{Item, given}
 use Rattle.layout.specs.Read.{refusalAt, withJustLine, withJustPage, justified, goIf, lineStep, above0, valueStep, itemStep}
-use Rattle.layout.specs.Demand.{Role, text, hexadecimal, rectangle, newPage as pageRole, other, roleOf, roleIn}
+use Rattle.layout.specs.Demand.{Role, text, hexadecimal, rectangle, pageJust, newPage as pageRole, other, roleOf, roleIn}
 use Rattle.layout.proofs.Cover.{Spoken}
 use Rattle.layout.proofs.Tags.{NoText, TagLike, good, unsupported, bad, tag-value}
 use Rattle.meter.specs.Gauges.{Narrow}
@@ -84,6 +84,7 @@ abbrev Clear : List ℕ → Role → Type 0
 Clear s (text p) = Narrow (codes (take (p .len) s))
 Clear s hexadecimal = Unit {0}
 Clear s (rectangle r) = Unit {0}
+Clear s (pageJust j) = Unit {0}
 Clear s pageRole = Unit {0}
 Clear s other = Unit {0}
 
@@ -101,6 +102,7 @@ no-text : (s : List ℕ) (r : Role) → NoText r → Clear s r
 no-text s (text p) h = absurd h
 no-text s hexadecimal h = tt
 no-text s (rectangle q) h = tt
+no-text s (pageJust j) h = tt
 no-text s pageRole h = tt
 no-text s other h = tt
 
@@ -169,6 +171,7 @@ module _ (a : ℕ) (s : List ℕ) where
   spoken e (text p) h k z = rw (h .1) k
   spoken e hexadecimal h k z = absurd (h z)
   spoken e (rectangle r) h k z = absurd (h z)
+  spoken e (pageJust j) h k z = absurd (h z)
   spoken e pageRole h k z = absurd (h z)
   spoken e other h k z = absurd (h z)
 

@@ -128,9 +128,9 @@ module _ (f : Entry → Row) (c : Config) (msg : List ℕ) (from : ℕ) (first :
     here-entries : entriesOf c (itemsFrom at msg) st blank ≡ entriesBy (entriesOf c (itemsFrom r msg)) t
     here-entries = ap (λ (l : List Item). entriesOf c l st blank) from-next ∙ ap (entriesBy (entriesOf c (itemsFrom r msg))) stepped
 
-    fair : FairStep msg c st (itemAt slice) t
+    fair : FairStep c st (itemAt slice) t
     unfolding slice
-    fair = subst (FairStep msg c st (itemAt slice)) stepped (step-is-fair msg c st blank (itemAt slice) (item-within at bytes (omega (arith, size, more))))
+    fair = subst (FairStep c st (itemAt slice)) stepped (step-is-fair c st blank (itemAt slice) (item-within at bytes (omega (arith, size, more))))
 
     ends : (u : Step) → t ≡ u → endingBy st (itemsFrom r msg) (endingOf c (itemsFrom r msg)) u ≡ endingOf c (itemsFrom from msg) first true
     ends u q = sym (here-ending ∙ ap (endingBy st (itemsFrom r msg) (endingOf c (itemsFrom r msg))) q) ∙ z .ending
@@ -138,8 +138,8 @@ module _ (f : Entry → Row) (c : Config) (msg : List ℕ) (from : ℕ) (first :
     spans : (u : Step) → t ≡ u → rowsOf rows n ++ map f (entriesBy (entriesOf c (itemsFrom r msg)) u) ≡ map f (entriesOf c (itemsFrom from msg) first true)
     spans u q = ap (λ (l : List Entry). rowsOf rows n ++ map f l) (sym (here-entries ∙ ap (entriesBy (entriesOf c (itemsFrom r msg))) q)) ∙ z .entries
 
-    fair-of : (u : Step) → t ≡ u → FairStep msg c st (itemAt slice) u
-    fair-of u q = subst (FairStep msg c st (itemAt slice)) q fair
+    fair-of : (u : Step) → t ≡ u → FairStep c st (itemAt slice) u
+    fair-of u q = subst (FairStep c st (itemAt slice)) q fair
 
     pub pass-refuse : (x : Refusal) → t ≡ Refuse x → (told msg (RefusedBy x) ≡ endingOf c (itemsFrom from msg) first true) × Rows f (entriesOf c (itemsFrom from msg) first true) rows (RefusedBy x) × Fair c from (length msg) (RefusedBy x) × (length rows ≡ R)
     pass-refuse x q = (ends (Refuse x) q, tt, tt, z .room)
@@ -148,7 +148,7 @@ module _ (f : Entry → Row) (c : Config) (msg : List ℕ) (from : ℕ) (first :
     pass-cut st′ q = (
       ends (Cut st′) q,
       sym (append-nil (rowsOf rows n)) ∙ spans (Cut st′) q,
-      (omega (arith, z .counted, more), past, z .inside, fits-inside c (st′ .rect) ((fair-of (Cut st′) q) .3)),
+      (omega (arith, z .counted, more), past, z .inside, fits-inside c (st′ .rect) ((fair-of (Cut st′) q) .1)),
       z .room,
     )
 
@@ -167,27 +167,27 @@ module _ (f : Entry → Row) (c : Config) (msg : List ℕ) (from : ℕ) (first :
           within = past;
           enough = z .enough;
           room = z .room;
-          inside = same-inside c (st′ .rect) (st .rect) ((fair-of (Go st′ b) q) .0) (z .inside);
+          inside = same-inside c (st′ .rect) (st .rect) ((fair-of (Go st′ b) q) .1) (z .inside);
           ending = ends (Go st′ b) q;
           entries = spans (Go st′ b) q;
         }
 
     -- a span: its row is stored
     module _ (x : Entry) (st′ : RenderState) (b : Bool) (q : t ≡ Emit x st′ b) (small : length msg ≤ 2048) where
-      spoke : FairStep msg c st (itemAt slice) (Emit x st′ b)
+      spoke : FairStep c st (itemAt slice) (Emit x st′ b)
       spoke = fair-of (Emit x st′ b) q
 
       starts : x .start ≡ at
       unfolding slice
-      starts = spoke .3
+      starts = spoke .2 .start
 
       shorter : x .len ≤ r - at
       unfolding slice
-      shorter = omega (arith, spoke .4, size)
+      shorter = omega (arith, spoke .2 .len, size)
 
       narrow : x .kind ≡ 0 → Narrow (codes (take (x .len) bytes))
       unfolding slice
-      narrow k = spoken-narrow at bytes x (spoke .6) k
+      narrow k = spoken-narrow at bytes x (spoke .2 .spoken) k
 
       pub pass-reads : Readable msg x
       unfolding partCodes bytes
@@ -211,7 +211,7 @@ module _ (f : Entry → Row) (c : Config) (msg : List ℕ) (from : ℕ) (first :
             within = past;
             enough = z .enough;
             room = l ∙ z .room;
-            inside = same-inside c (st′ .rect) (st .rect) (spoke .0) (z .inside);
+            inside = same-inside c (st′ .rect) (st .rect) (spoke .1) (z .inside);
             ending = ends (Emit x st′ b) q;
             entries =
                 ap (λ (y : List ℕ). rowsOf y (n + 1) ++ map f (entriesOf c (itemsFrom r msg) st′ b)) d
