@@ -60,7 +60,7 @@ pub fn font_numbered(table: SignFile, number: u8) -> FontFound
 fn next_character(file: &[u8], at: usize) -> Next
     ensures { λ r. ⌜ charactersOf (piecesAt (now (file .entry)) at) ≡ charactersBy (now (file .entry)) r ⌝ }
 {
-    let Head::Whole { kind, start, end } = records::record_at(file, at) else {
+    let Head::Whole { kind, start, end } = reader::record_at(file, at) else {
         return Next::End;
     };
     if kind != 3 {

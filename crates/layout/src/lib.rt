@@ -95,7 +95,7 @@ pub fn given(o: OptNum, d: u16) -> u16
 }
 
 // The whole sign.
-pub fn whole(c: Config) -> Rect
+fn whole(c: Config) -> Rect
     ensures { λ r. ⌜ r ≡ wholeOf c ⌝ }
 {
     Rect {

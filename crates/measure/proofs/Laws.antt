@@ -1,6 +1,6 @@
 -- The ways on and out of the loop over a text.
 use Prim.Native.Nat.{ℕ, zero, suc, _+_, _-_, _*_, _≤_, _<_}
-use mathlib.Core.Path.{_≡_, refl, sym, _∙_}
+use mathlib.Core.Path.{_≡_, refl, sym, _∙_, ap}
 use mathlib.Core.List.{List, [], _∷_}
 use mathlib.Core.Bool.{Bool, true, false}
 use native.Mathlib.Omega.{arith}
@@ -12,6 +12,7 @@ use Rattle.base.specs.Pick.{pick}
 use Rattle.utf8.specs.Utf8.{codes, codeAt}
 use Rattle.utf8.specs.declared.Code.{Code}
 use Rattle.utf8.proofs.Laws.{codes-next, codes-end, code-less, len-is}
+use Rattle.records.proofs.Laws.{never}
 use Rattle.records.specs.Record.{Piece, Record, CutShort, bodyLen, kindOf, whole, firstPiece, restLen, cutFrom, piecesAt}
 use Rattle.sign.specs.Sign.{Character, characterOf, charactersOf}
 use Rattle.sign.specs.Accepted.{Each, each-none, each-more, Bytes}
@@ -22,6 +23,7 @@ use Rattle.font.specs.Widths.{widthIn, Widths}
 use Rattle.font.specs.declared.Found.{Found}
 use Rattle.font.specs.declared.Found.the-variants.{Is, Missing as Absent}
 use Rattle.measure.specs.Measure.{widened, after, widthAfter, textWidth}
+use Rattle.measure.specs.Grown.{Grown}
 use Rattle.measure.specs.declared.Measure.{Measure}
 use Rattle.measure.specs.declared.Measure.the-variants.{Width, Missing}
 
@@ -96,7 +98,7 @@ module _ (chs : List Character) (code : ℕ) where
 
 pub ruleset in-ways = (in-table, in-small, in-none, in-some)
 
--- `width_by`
+-- `with_character`: x is what stands for what is found
 after-none : (f : Found) (code : ℕ) (on : ℕ → Measure) → 0 ≡ widthIn f → after f code on ≡ Missing code
 after-none (Is more bitmap) code on e = absurd (omega arith)
 after-none Absent code on e = refl
@@ -115,30 +117,64 @@ widened-le w spacing more h k = go (ltb 0 w)
     go true = omega arith
     go false = omega arith
 
+module _ (chs : List Character) (w spacing code x : ℕ) (p : x ≡ widthIn (characterIn code chs)) where
+  abbrev on : ℕ → Measure
+  on more = Width (widened w spacing more)
+
+  pub with-none : x ≡ 0 → Missing code ≡ widthAfter chs spacing w (code ∷ [])
+  unfolding widthAfter
+  with-none z = sym (after-none (characterIn code chs) code on (sym z ∙ p))
+
+  pub with-some : (x ≡ 0 → ⊥) → (v : ℕ) → v ≡ widened w spacing (x - 1) → Width v ≡ widthAfter chs spacing w (code ∷ [])
+  unfolding widthAfter
+  with-some n v d = ap Width d ∙ sym (after-some (characterIn code chs) code on x p n)
+
+  pub with-grown : x ≤ 256 → (x ≡ 0 → ⊥) → spacing < 65536 → (v : ℕ) → v ≡ widened w spacing (x - 1) → v ≤ w + 65790
+  with-grown h n s v d = rw d (widened-le w spacing (x - 1) s (omega arith))
+
+pub ruleset with-ways = (with-none, with-some, with-grown)
+
+-- `short_width`: r is the answer of `with_character`
+after-missing : (f : Found) (code x : ℕ) (g : ℕ → ℕ) (on : ℕ → Measure) → after f code (λ more. Width (g more)) ≡ Missing x → after f code on ≡ Missing code
+after-missing (Is more bitmap) code x g on e = never (let z : _≡_ {A = ℕ} 0 1 = cc in z)
+after-missing Absent code x g on e = refl
+
+after-width : (f : Found) (code v : ℕ) (g : ℕ → ℕ) (on : ℕ → Measure) → after f code (λ more. Width (g more)) ≡ Width v → after f code (λ more. on (g more)) ≡ on v
+after-width (Is more bitmap) code v g on e =
+    let d : g more ≡ v = cc in
+    rw d
+after-width Absent code v g on e = never (let z : _≡_ {A = ℕ} 0 1 = cc in z)
+
 module _ (text : List ℕ) (at w : ℕ) (chs : List Character) (spacing : ℕ) (m : Measure) (inv : widthAfter chs spacing w (codes (drop at text)) ≡ m) where
   pub width-end : length text ≤ at → Width w ≡ m
   unfolding widthAfter
   width-end h = rw (codes-end text at h) at inv
 
-  module _ (h : at < length text) (r : Code) (e : r ≡ codeAt text at) (x : ℕ) (p : x ≡ widthIn (characterIn (r .code) chs)) where
-    abbrev on : ℕ → Measure
-    on more = widthAfter chs spacing (widened w spacing more) (codes (drop (at + r .len) text))
+  module _ (h : at < length text) (c : Code) (e : c ≡ codeAt text at) (r : Measure) (q : r ≡ widthAfter chs spacing w (c .code ∷ [])) where
+    abbrev rest : ℕ → Measure
+    rest v = widthAfter chs spacing v (codes (drop (at + c .len) text))
 
-    here : after (characterIn (r .code) chs) (r .code) on ≡ m
+    here : after (characterIn (c .code) chs) (c .code) (λ more. rest (widened w spacing more)) ≡ m
     unfolding widthAfter
-    here = rw (codes-next text at r e h) at inv
+    here = rw (codes-next text at c e h) at inv
 
-    pub width-missing : x ≡ 0 → Missing (r .code) ≡ m
-    width-missing z = sym (after-none (characterIn (r .code) chs) (r .code) on (sym z ∙ p)) ∙ here
+    one : after (characterIn (c .code) chs) (c .code) (λ more. Width (widened w spacing more)) ≡ r
+    unfolding widthAfter
+    one = sym q
 
-    pub width-on : (x ≡ 0 → ⊥) → (v : ℕ) → v ≡ widened w spacing (x - 1) → widthAfter chs spacing v (codes (drop (at + r .len) text)) ≡ m
-    width-on n v d = rw d (sym (after-some (characterIn (r .code) chs) (r .code) on x p n) ∙ here)
+    pub width-missing : (x : ℕ) → r ≡ Missing x → Missing (c .code) ≡ m
+    width-missing x z = sym (after-missing (characterIn (c .code) chs) (c .code) x (widened w spacing) (λ more. rest (widened w spacing more)) (one ∙ z)) ∙ here
+
+    pub width-on : (v : ℕ) → r ≡ Width v → widthAfter chs spacing v (codes (drop (at + c .len) text)) ≡ m
+    width-on v z = sym (after-width (characterIn (c .code) chs) (c .code) v (widened w spacing) rest (one ∙ z)) ∙ here
 
 -- the width is at most 65,790 for each byte
-pub width-fits : (text : List ℕ) (at w spacing more v : ℕ) (r : Code) → r ≡ codeAt text at → v ≡ widened w spacing more → spacing < 65536 → more < 256 → w ≤ 65790 * at → v ≤ 65790 * (at + r .len)
-width-fits text at w spacing more v r e d s k b = omega (arith, widened-le w spacing more s k, len-is text at r e)
+pub width-fits : (text : List ℕ) (at w v : ℕ) (c : Code) (r : Measure) → c ≡ codeAt text at → Grown w r → r ≡ Width v → w ≤ 65790 * at → v ≤ 65790 * (at + c .len)
+width-fits text at w v c r e g z b =
+    let k : v ≤ w + 65790 = rw z at g in
+    omega (arith, k, len-is text at c e)
 
-pub ruleset width-ways = (width-end, width-missing, width-on, code-less)
+pub ruleset width-ways = (width-end, width-missing, width-on, width-fits, code-less)
 
 pub width-start : (chs : List Character) (spacing : ℕ) (text : List ℕ) → widthAfter chs spacing 0 (codes (drop 0 text)) ≡ textWidth chs spacing (codes text)
 unfolding textWidth

@@ -1,2 +1,3 @@
 pub mod Measure
+pub mod Grown
 pub mod Examples

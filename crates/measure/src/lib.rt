@@ -2,12 +2,14 @@
 use font::Found;
 use sign::FontEntry;
 ghost use mathlib.Core.Path.{_≡_};
+ghost use mathlib.Core.List.{_∷_, []};
 ghost use Prim.Native.Nat.{_*_, _≤_, _<_};
 ghost use lib.ListN.{length, take};
 ghost use Rattle.utf8.specs.Utf8.{codes};
 ghost use Rattle.font.specs.Character.{characterIn, charactersAt};
 ghost use Rattle.font.specs.Widths.{widthIn, Widths};
-ghost use Rattle.measure.specs.Measure.{widened, textWidth};
+ghost use Rattle.measure.specs.Measure.{widened, widthAfter, textWidth};
+ghost use Rattle.measure.specs.Grown.{Grown};
 
 // A text's width, or the code of its first character that the font does not define.
 pub enum Measure {
@@ -16,7 +18,7 @@ pub enum Measure {
 }
 
 // The character with a code point in a font: a font's numbers have 16 bits.
-pub fn character(file: &[u8], entry: FontEntry, code: u32) -> Found
+fn character(file: &[u8], entry: FontEntry, code: u32) -> Found
     ensures { λ r. ⌜ r ≡ characterIn code (charactersAt (now (file .entry)) entry) ⌝ }
 {
     if 65535 < code {
@@ -59,8 +61,28 @@ fn width_in(file: &[u8], entry: FontEntry, table: &[u16], code: u32) -> u16
     records::wide16(width) + 1
 }
 
-// The width of a short text, with a table of the font's widths.
-pub fn width_by(file: &[u8], entry: FontEntry, table: &[u16], text: &[u8], spacing: u16) -> Measure
+// A width with one character more, or that character's code if the font does not define it.
+pub fn with_character(
+    file: &[u8],
+    entry: FontEntry,
+    table: &[u16],
+    width: u32,
+    code: u32,
+    spacing: u16,
+) -> Measure
+    requires { ⌜ Widths (charactersAt (now file) entry) (now table) ⌝ }
+    requires { ⌜ width ≤ 65790 * 65000 ⌝ }
+    ensures { λ r. ⌜ (r ≡ widthAfter (charactersAt (now (file .entry)) entry) spacing width (code ∷ [])) × Grown width r ⌝ }
+{
+    let more = width_in(file, entry, table, code);
+    if more == 0 {
+        return Measure::Missing(code);
+    }
+    Measure::Width(wider(width, spacing, more - 1))
+}
+
+// The width of a short text.
+fn short_width(file: &[u8], entry: FontEntry, table: &[u16], text: &[u8], spacing: u16) -> Measure
     requires { ⌜ Widths (charactersAt (now file) entry) (now table) ⌝ }
     requires { ⌜ length (now text) ≤ 65000 ⌝ }
     ensures { λ r. ⌜ r ≡ textWidth (charactersAt (now (file .entry)) entry) spacing (codes (now (text .entry))) ⌝ }
@@ -69,35 +91,28 @@ pub fn width_by(file: &[u8], entry: FontEntry, table: &[u16], text: &[u8], spaci
     let mut at: usize = 0;
     while at < text.len() {
         let c = utf8::code_at(text, at);
-        let more = width_in(file, entry, table, c.code);
-        if more == 0 {
+        let Measure::Width(v) = with_character(file, entry, table, w, c.code, spacing) else {
             return Measure::Missing(c.code);
-        }
-        w = wider(w, spacing, more - 1);
+        };
+        w = v;
         at += c.len;
     }
     Measure::Width(w)
 }
 
-// The width of a short text: the font is walked once, or for each character of a text of two bytes at most.
-fn short_width(file: &[u8], entry: FontEntry, text: &[u8], spacing: u16) -> Measure
-    requires { ⌜ length (now text) ≤ 65000 ⌝ }
-    ensures { λ r. ⌜ r ≡ textWidth (charactersAt (now (file .entry)) entry) spacing (codes (now (text .entry))) ⌝ }
-{
-    if text.len() <= 2 {
-        return width_by(file, entry, &[0u16; 0], text, spacing);
-    }
-    let mut table = [0u16; 256];
-    font::widths(file, entry, &mut table);
-    width_by(file, entry, &table, text, spacing)
-}
-
-// The width of a text: of its first 65,000 bytes, where it has more.
-pub fn text_width(file: &[u8], entry: FontEntry, text: &[u8], spacing: u16) -> Measure
+// The width of a text, with a table of the font's widths: of its first 65,000 bytes, where it has more.
+pub fn text_width(
+    file: &[u8],
+    entry: FontEntry,
+    table: &[u16],
+    text: &[u8],
+    spacing: u16,
+) -> Measure
+    requires { ⌜ Widths (charactersAt (now file) entry) (now table) ⌝ }
     ensures { λ r. ⌜ r ≡ textWidth (charactersAt (now (file .entry)) entry) spacing (codes (take 65000 (now (text .entry)))) ⌝ }
 {
     if text.len() <= 65000 {
-        return short_width(file, entry, text, spacing);
+        return short_width(file, entry, table, text, spacing);
     }
-    short_width(file, entry, &text[..65000], spacing)
+    short_width(file, entry, table, &text[..65000], spacing)
 }

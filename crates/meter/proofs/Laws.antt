@@ -1,5 +1,5 @@
 -- A span in its font, by the code's ways.
-use Prim.Native.Nat.{ℕ, _+_, _-_, _<_}
+use Prim.Native.Nat.{ℕ, _+_, _-_, _≤_, _<_}
 use mathlib.Core.Path.{_≡_, refl, sym, _∙_, ap}
 use mathlib.Core.Option.{Option, none, some}
 use mathlib.Core.Bool.{Bool, true, false}
@@ -7,7 +7,8 @@ use mathlib.Core.List.{List, [], _∷_}
 use native.Mathlib.Omega.{arith}
 use borrow.Author.Tests.{eq-eqb, ne-eqb}
 use lib.Dec.{eqb}
-use lib.ListN.{take, drop}
+use lib.ListN.{take, drop, length-take}
+use lib.Seq.{take-all}
 use Rattle.base.specs.Pick.{pick}
 use Rattle.value.specs.declared.OptNum.{OptNum}
 use Rattle.value.specs.declared.OptNum.the-variants.{Some, None}
@@ -42,22 +43,6 @@ use Rattle.meter.specs.Gauges.{fontsIn, meterIn, Opened, Held, Narrow, S
 
 -- ---- widths
 
--- a character alone: f is what was found
-module _ (chs : List Character) (spacing code : ℕ) (f : Found) (e : f ≡ characterIn code chs) where
-  alone : after f code (λ more. Width (widened 0 spacing more)) ≡ textWidth chs spacing (code ∷ [])
-  unfolding textWidth widthAfter
-  alone = ap (λ (x : Found). after x code (λ more. Width (widened 0 spacing more))) e
-
-  pub hex-is : (w b : ℕ) → f ≡ Is w b → Width w ≡ textWidth chs spacing (code ∷ [])
-  unfolding widened
-  hex-is w b p =
-      let z : w ≡ 0 + (0 + w) = omega arith in
-      let h : Width (widened 0 spacing w) ≡ textWidth chs spacing (code ∷ []) = rw p at alone in
-      ap Width z ∙ h
-
-  pub hex-none : f ≡ Absent → Missing code ≡ textWidth chs spacing (code ∷ [])
-  hex-none p = rw p at alone
-
 -- a missing character of a narrow text is narrow
 after-short : (chs : List Character) (spacing w : ℕ) (l : List ℕ) → Narrow l → Short (widthAfter chs spacing w l)
 unfolding widthAfter
@@ -72,19 +57,27 @@ pub text-short : (chs : List Character) (spacing : ℕ) (l : List ℕ) (m : Meas
 unfolding textWidth
 text-short chs spacing l m h e = rw e (after-short chs spacing 0 l h)
 
+-- a character alone
+pub hex-alone : (chs : List Character) (spacing code : ℕ) (r : Measure) → code < 65536 → r ≡ widthAfter chs spacing 0 (code ∷ []) → (r ≡ textWidth chs spacing (code ∷ [])) × Short r
+unfolding textWidth
+hex-alone chs spacing code r h q = (q, rw q (after-short chs spacing 0 (code ∷ []) (h, tt)))
+
 part : (chs : List Character) (spacing : ℕ) (msg : List ℕ) (e : Entry) {n : ℕ} → n ≡ e .len → textWidth chs spacing (codes (take n (drop (e .start) msg))) ≡ textWidth chs spacing (partCodes msg e)
 unfolding partCodes
 part chs spacing msg e q = ap (λ (k : ℕ). textWidth chs spacing (codes (take k (drop (e .start) msg)))) q
 
-pub part-text : (chs : List Character) (spacing : ℕ) (msg : List ℕ) (e : Entry) (r : Measure) → r ≡ textWidth chs spacing (codes (take (e .start + e .len - e .start) (drop (e .start) msg)))
+pub part-text : (chs : List Character) (spacing : ℕ) (msg : List ℕ) (e : Entry) (r : Measure) → e .len ≤ 65000 → r ≡ textWidth chs spacing (codes (take 65000 (take (e .start + e .len - e .start) (drop (e .start) msg))))
     → Narrow (partCodes msg e) → (r ≡ textWidth chs spacing (partCodes msg e)) × Short r
-part-text chs spacing msg e r q h = (is, text-short chs spacing (partCodes msg e) r h is)
+part-text chs spacing msg e r k q h = (is, text-short chs spacing (partCodes msg e) r h is)
   where
     n : e .start + e .len - e .start ≡ e .len
     n = omega arith
 
+    all : take 65000 (take (e .start + e .len - e .start) (drop (e .start) msg)) ≡ take (e .start + e .len - e .start) (drop (e .start) msg)
+    all = take-all 65000 (take (e .start + e .len - e .start) (drop (e .start) msg)) (simp length-take (omega arith))
+
     is : r ≡ textWidth chs spacing (partCodes msg e)
-    is = q ∙ part chs spacing msg e n
+    is = q ∙ ap (λ (l : List ℕ). textWidth chs spacing (codes l)) all ∙ part chs spacing msg e n
 
 -- what a span prints, by its kind: r is its width
 module _ (chs : List Character) (spacing : ℕ) (msg : List ℕ) (e : Entry) where

@@ -11,7 +11,6 @@ ghost use Rattle.measure.specs.Measure.{textWidth};
 ghost use Rattle.rows.specs.Measured.{flag as flagOf, gaugeOf, rowBy, rowOf};
 ghost use Rattle.meter.specs.Gauges.{Opened, Held, Narrow, partCodes, Readable, Short, meterIn, fontAt, versionNumber, faultBy, gaugeFor};
 use font::FontFound;
-use font::Found;
 use layout::Entry;
 use measure::Measure;
 use rows::Gauge;
@@ -36,13 +35,11 @@ fn flag(o: OptNum) -> u16
 }
 
 // The width of a character alone.
-fn hex_width(file: &[u8], f: FontEntry, code: u16, spacing: u16) -> Measure
+fn hex_width(file: &[u8], f: FontEntry, widths: &[u16], code: u16, spacing: u16) -> Measure
+    requires { ⌜ Widths (charactersAt (now file) f) (now widths) ⌝ }
     ensures { λ r. ⌜ (r ≡ textWidth (charactersAt (now (file .entry)) f) spacing (code ∷ [])) × Short r ⌝ }
 {
-    match font::character(file, f, code) {
-        Found::Is(w, _) => Measure::Width(w as u32),
-        Found::Missing => Measure::Missing(code as u32),
-    }
+    measure::with_character(file, f, widths, 0, code as u32, spacing)
 }
 
 // The width of a text of the message.
@@ -60,7 +57,7 @@ fn part_width(
 {
     let start = e.start as usize;
     let end = start + e.len as usize;
-    measure::width_by(file, f, widths, &msg[start..end], spacing)
+    measure::text_width(file, f, widths, &msg[start..end], spacing)
 }
 
 // The width of what a span prints.
@@ -80,7 +77,7 @@ fn span_width(
         return part_width(file, f, widths, msg, e, spacing);
     }
     if e.kind == 1 {
-        return hex_width(file, f, e.code, spacing);
+        return hex_width(file, f, widths, e.code, spacing);
     }
     Measure::Width(0)
 }

@@ -31,7 +31,7 @@ pub enum ReadColor {
 }
 
 // An optional number of at most max: nothing is none.
-pub fn parse_optional(p: &[u8], max: u32) -> Optional
+fn parse_optional(p: &[u8], max: u32) -> Optional
     requires { ⌜ max ≤ 65535 ⌝ }
     ensures { λ r. ⌜ r ≡ readOptional max (now (p .entry)) ⌝ }
 {

@@ -6,7 +6,7 @@ ghost use Rattle.number.specs.Number.{readNumber};
 use number::Number;
 
 // A byte with an ASCII letter in lower case.
-pub fn lower(b: u8) -> u8
+fn lower(b: u8) -> u8
     ensures { λ r. ⌜ r ≡ lowerOf b ⌝ }
 {
     if 65 <= b {
@@ -26,7 +26,7 @@ pub fn letter_at(s: &[u8], at: usize) -> u8
 }
 
 // Where the first byte that is sep stands, in either letter case, or the length.
-pub fn find(s: &[u8], sep: u8) -> usize
+fn find(s: &[u8], sep: u8) -> usize
     ensures { λ r. ⌜ r ≡ indexOf sep (now (s .entry)) ⌝ }
 {
     let mut i = 0;

@@ -55,7 +55,7 @@ pub fn le16(s: &[u8], at: usize) -> u16
 }
 
 // Four bytes as a number, the lowest first; 0 for each past the end.
-pub fn le32(s: &[u8], at: usize) -> u32
+fn le32(s: &[u8], at: usize) -> u32
     ensures { λ r. ⌜ r ≡ littleAt 4 at (now (s .entry)) ⌝ }
 {
     if s.len() <= at {

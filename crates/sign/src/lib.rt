@@ -96,7 +96,7 @@ fn font_in(kind: u16, body: &[u8], end: usize) -> FontAt
 fn font_at(file: &[u8], at: usize) -> FontAt
     ensures { λ r. ⌜ r ≡ fontAt (now (file .entry)) at ⌝ }
 {
-    match records::record_at(file, at) {
+    match reader::record_at(file, at) {
         Head::Whole { kind, start, end } => font_in(kind, &file[start..end], end),
         Head::Short => FontAt::Not,
     }
@@ -126,7 +126,7 @@ fn char_in(height: u8, kind: u16, body: &[u8], end: usize) -> CharAt
 fn char_at(file: &[u8], at: usize, height: u8) -> CharAt
     ensures { λ r. ⌜ r ≡ charAt (now (file .entry)) at height ⌝ }
 {
-    match records::record_at(file, at) {
+    match reader::record_at(file, at) {
         Head::Whole { kind, start, end } => char_in(height, kind, &file[start..end], end),
         Head::Short => CharAt::Other,
     }
@@ -258,7 +258,7 @@ pub fn read_sign(file: &[u8]) -> SignFile
     if 65535 < file.len() {
         return refused(0);
     }
-    let Head::Whole { kind, start, end } = records::record_at(file, 0) else {
+    let Head::Whole { kind, start, end } = reader::record_at(file, 0) else {
         return refused(0);
     };
     let First::Is(config) = records::config_of(kind, &file[start..end]) else {

@@ -112,7 +112,7 @@ pub fn words(line: &[u8]) -> usize {
 }
 
 // Whether word n of a line is a text.
-pub fn word_is(line: &[u8], n: usize, text: &[u8]) -> bool {
+fn word_is(line: &[u8], n: usize, text: &[u8]) -> bool {
     let start = word_start(line, n);
     let end = word_end(line, start);
     same(&line[start..end], text)
@@ -167,7 +167,7 @@ fn has_number(line: &[u8], n: usize) -> bool {
 }
 
 // Whether a line is so many numbers.
-pub fn is_numbers(line: &[u8], count: usize) -> bool {
+fn is_numbers(line: &[u8], count: usize) -> bool {
     if words(line) != count {
         return false;
     }
@@ -266,7 +266,7 @@ pub fn bytes_at(line: &[u8], n: usize, out: &mut [u8]) -> Bytes
 }
 
 // Whether two slices hold the same bytes.
-pub fn same(a: &[u8], b: &[u8]) -> bool {
+fn same(a: &[u8], b: &[u8]) -> bool {
     if a.len() != b.len() {
         return false;
     }
@@ -286,7 +286,7 @@ pub fn up(n: u32) -> u32 {
 }
 
 // One less, down to 0.
-pub fn down(n: u32) -> u32 {
+fn down(n: u32) -> u32 {
     if n == 0 { 0 } else { n - 1 }
 }
 

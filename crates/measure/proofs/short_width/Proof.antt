@@ -1,18 +1,35 @@
 use borrow.Author.Needs.{needs}
-use Prim.Native.Nat.{ℕ}
+use Prim.Native.Nat.{_-_, _*_, _≤_}
 use native.Mathlib.Omega.{arith}
-use lib.ListN.{getD-replicate}
+use mathlib.Core.Path.{_≡_}
+use lib.ListN.{length, drop}
+use Rattle.utf8.specs.Utf8.{codes}
+use Rattle.utf8.proofs.Laws.{code-len}
+use Rattle.font.specs.Character.{charactersAt}
+use Rattle.measure.specs.Measure.{widthAfter, textWidth}
+use Rattle.measure.proofs.Laws.{width-ways, width-start}
 use Rattle.measure.proofs.short_width.Statement.{statement}
 use Rattle.measure.proofs.short_width.Tie as tie
+
+abbrev Inv-loop : tie.InvT-loop
+Inv-loop file entry table text spacing w₀ at₀ w at =
+    (w ≤ 65790 * at) × (widthAfter (charactersAt file entry) spacing w (codes (drop at text)) ≡ textWidth (charactersAt file entry) spacing (codes text))
+
+abbrev μ-loop : tie.MeasureT-loop
+μ-loop file entry table text spacing w₀ at₀ w at = length text - at
 
 pub short-width-spec : {M : Type 1} → statement M
 short-width-spec =
     tie.close (tie.spec
-    (λ c. search needs)  -- slice-aggregate-width-by
-    (λ c κs. search needs)  -- width-by-requires
-    (λ c. search needs)  -- returns
-    (λ c. search needs)  -- slice-aggregate-widths
-    (λ c κs. (omega arith, λ i h. getD-replicate {A = ℕ} 256 i 0 0 h))  -- widths-requires
-    (λ c. search needs)  -- slice-aggregate-width-by-2
-    (λ c κs. search needs)  -- width-by-requires-2
-    (λ c. search needs))  -- returns-2
+    Inv-loop
+    μ-loop
+    (λ c. search (width-start, needs))  -- loop-holds
+    (λ c κs. search needs)  -- code-at-requires
+    (λ c κs. search needs)  -- with-character-requires
+    (λ c. search needs)  -- enum-known-v
+    (λ c. search needs)  -- enum-told
+    (λ c. search (width-ways, needs) depth 6)  -- returns
+    (λ c. let a : tie.After-code-at Inv-loop μ-loop = search in omega (arith, code-len _ _ _ (a .code-at .ensures)))  -- add-at
+    (λ c. search (width-ways, needs) depth 6)  -- loop-less
+    (λ c. (search (width-ways, needs) depth 8, search (width-ways, needs) depth 8))  -- loop-again
+    (λ c. search (width-ways, needs) depth 6))  -- returns-2

@@ -12,6 +12,6 @@ text-width-spec =
     tie.close (tie.spec
     (λ c κs. search needs)  -- short-width-requires
     (λ c. search (width-all, needs))  -- returns
-    (λ c. sym (length-take-le 65000 (c .before .before .before .before .args .text .now) (search needs)))  -- slice-aggregate-short-width
-    (λ c κs. simp length-take (omega arith))  -- short-width-requires-2
+    (λ c. let s : tie.Start = search in sym (length-take-le 65000 (s .args .text .now) (search needs)))  -- slice-aggregate-short-width
+    (λ c κs. (search needs, simp length-take (omega arith)))  -- short-width-requires-2
     (λ c. search needs))  -- returns-2

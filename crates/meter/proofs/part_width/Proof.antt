@@ -1,4 +1,5 @@
 use Rattle.meter.proofs.Laws.{part-text}
+use native.Mathlib.Omega.{arith}
 use borrow.Author.Needs.{needs}
 use Rattle.meter.proofs.part_width.Statement.{statement}
 use Rattle.meter.proofs.part_width.Tie as tie
@@ -9,8 +10,8 @@ part-width-spec =
     (λ c. search needs)  -- cast-start
     (λ c. search needs)  -- cast-end
     (λ c. search needs)  -- add-end
-    (λ c. search needs)  -- sub-width-by
-    (λ c. search needs)  -- part-width-by-start
-    (λ c. search needs)  -- part-width-by-end
-    (λ c κs. search needs)  -- width-by-requires
-    (λ c. part-text _ _ _ (c .before .before .before .before .before .before .before .args .e) _ (c .width-by .ensures) (c .before .before .before .before .before .before .before .pre .1 .2)))  -- returns
+    (λ c. search needs)  -- sub-text-width
+    (λ c. search needs)  -- part-text-width-start
+    (λ c. search needs)  -- part-text-width-end
+    (λ c κs. search needs)  -- text-width-requires
+    (λ c. let s : tie.Start = search in part-text _ _ _ (s .args .e) _ (omega (arith, s .pre .1 .0, s .pre .1 .1)) (c .text-width .ensures) (s .pre .1 .2)))  -- returns
