@@ -29,24 +29,27 @@ use Rattle.meter.specs.Gauges.{fontsIn, meterIn}
 use Rattle.pages.specs.declared.Pages.{Pages}
 use Rattle.pages.specs.declared.NextPage.{NextPage}
 use Rattle.pages.specs.declared.NextPage.the-variants.{On as NextOn, Off as NextOff, End as NextNone, Refused as NextRefused}
-use Rattle.pages.specs.Pages.{boardIn, firstOf, todo, nextTold, Sound, weight, Keeps}
+use Rattle.pages.specs.Pages.{boardIn, Ready, firstOf, todo, nextTold, Sound, weight, Keeps}
 use Rattle.pages.proofs.Answers.{pages-todo, first-sound}
-use Rattle.answer.specs.Answer.{writtenBy, told, answerBy, Countable, countOf}
+use Rattle.answer.specs.Answer.{writtenBy, told, answerBy, Countable, Answerable, countOf, Numbered, Checked}
 
 -- ---- the loop
 
-pub record Stands (s : Board) (msg : List ℕ) (number R O : ℕ) (rows out : List ℕ) (p : Pages) (i : ℕ) : Type 0 where
-  pub sound : Sound (s .config) (length msg) p
+pub record Stands (file : List ℕ) (table : SignFile) (msg : List ℕ) (number : ℕ) (rows₀ out₀ rows out : List ℕ) (p : Pages) (i : ℕ) : Type 0 where
+  pub ready : Ready file table msg rows₀ out₀
+  pub sound : Sound (table .config) (length msg) p
   pub few : i + weight (p .«page_state») ≤ 2 * p .at + 2
   pub before : i ≤ number
-  pub rowed : length rows ≡ R
-  pub room : length out ≡ O
-  pub same : numbered i (todo s msg p) (number - i) ≡ numbered 0 (pages s (items msg)) number
+  pub rowed : length rows ≡ length rows₀
+  pub room : length out ≡ length out₀
+  pub same : numbered i (todo (boardIn file msg (table .config)) msg p) (number - i) ≡ numbered 0 (pages (boardIn file msg (table .config)) (items msg)) number
 
-pub numbered-start : (s : Board) (msg : List ℕ) (number : ℕ) (rows out : List ℕ) (p : Pages) → p ≡ firstOf (s .config) → Stands s msg number (length rows) (length out) rows out p 0
-numbered-start s msg number rows out p e =
-    subst (λ (q : Pages). Stands s msg number (length rows) (length out) rows out q 0) (sym e)
+pub numbered-start : {file : List ℕ} {table : SignFile} {msg : List ℕ} {number : ℕ} {rows out : List ℕ} {p : Pages} → Ready file table msg rows out → p ≡ firstOf (table .config) → Stands file table msg number rows out rows out p 0
+numbered-start {file} {table} {msg} {number} {rows} {out} {p} r e =
+    let s : Board = boardIn file msg (table .config) in
+    subst (λ (q : Pages). Stands file table msg number rows out rows out q 0) (sym e)
     (record {
+      ready = r;
       sound = first-sound (s .config) (length msg);
       few = omega arith;
       before = omega arith;
@@ -59,60 +62,74 @@ numbered-start s msg number rows out p e =
 less : (i m k : ℕ) (q : Page) (l : List Page) → m ≡ suc k → numbered i (q ∷ l) m ≡ past q (numbered (suc i) l k)
 less i m k q l e = rw e
 
-module _ (s : Board) (msg : List ℕ) (number R O : ℕ) (rows out : List ℕ) (p : Pages) (i : ℕ) (z : Stands s msg number R O rows out p i) (small : length msg ≤ 2048) where
-  pub count-small : i < 65536
-  count-small = omega (arith, z .few, z .sound .within)
+module _ {file : List ℕ} {table : SignFile} {msg : List ℕ} {number : ℕ} {rows₀ out₀ rows out : List ℕ} {p : Pages} {i : ℕ} (z : Stands file table msg number rows₀ out₀ rows out p i) where
+  abbrev s : Board
+  s = boardIn file msg (table .config)
+
+  count-small : i < 65536
+  count-small = omega (arith, z .few, z .sound .within, z .ready .small)
 
   -- t is the next answer
-  module _ (rows′ out′ : List ℕ) (t : NextPage) (e : todo s msg p ≡ nextTold s msg out′ t) (k : Keeps (s .config) (length msg) (p .at) (weight (p .«page_state»)) t) (l : length rows′ ≡ length rows) (m : length out′ ≡ length out) where
+  module _ (rows′ out′ : List ℕ) (t : NextPage) (e : todo s msg p ≡ nextTold s msg out′ t) (k : Keeps (table .config) (length msg) (p .at) (weight (p .«page_state»)) t) (l : length rows′ ≡ length rows) (m : length out′ ≡ length out) where
+    abbrev Tells : Answer → Type 0
+    Tells = Numbered file table msg number rows₀ out₀ rows′ out′
+
+    pub numbered-rowed : length rows′ ≡ length rows₀
+    numbered-rowed = l ∙ z .rowed
+
+    pub numbered-room : length out′ ≡ length out₀
+    numbered-room = m ∙ z .room
+
     here : (u : NextPage) → t ≡ u → numbered i (nextTold s msg out′ u) (number - i) ≡ numbered 0 (pages s (items msg)) number
     here u q = ap (λ (x : List Page). numbered i x (number - i)) (sym (e ∙ ap (nextTold s msg out′) q)) ∙ z .same
 
     keeps : (u : NextPage) → t ≡ u → Keeps (s .config) (length msg) (p .at) (weight (p .«page_state»)) u
     keeps u q = subst (Keeps (s .config) (length msg) (p .at) (weight (p .«page_state»))) q k
 
-    pub numbered-on : (q : Pages) (d n : ℕ) → t ≡ NextOn q d n → i < number → Stands s msg number R O rows′ out′ q (i + 1)
+    pub numbered-on : (q : Pages) (d n : ℕ) → t ≡ NextOn q d n → i < number → Stands file table msg number rows₀ out₀ rows′ out′ q (i + 1)
     numbered-on q d n c h =
         let g : Keeps (s .config) (length msg) (p .at) (weight (p .«page_state»)) (NextOn q d n) = keeps (NextOn q d n) c in
         record {
+          ready = z .ready;
           sound = g .0;
           few = omega (arith, g .1, z .few);
           before = omega arith;
-          rowed = l ∙ z .rowed;
-          room = m ∙ z .room;
+          rowed = numbered-rowed;
+          room = numbered-room;
           same = rw (add-one i) (sym (less i (number - i) (number - suc i) (on d (spansOf out′ n)) (todo s msg q) (omega arith)) ∙ here (NextOn q d n) c);
         }
 
-    pub numbered-off : (q : Pages) (d : ℕ) → t ≡ NextOff q d → i < number → Stands s msg number R O rows′ out′ q (i + 1)
+    pub numbered-off : (q : Pages) (d : ℕ) → t ≡ NextOff q d → i < number → Stands file table msg number rows₀ out₀ rows′ out′ q (i + 1)
     numbered-off q d c h =
         let g : Keeps (s .config) (length msg) (p .at) (weight (p .«page_state»)) (NextOff q d) = keeps (NextOff q d) c in
         record {
+          ready = z .ready;
           sound = g .0;
           few = omega (arith, g .1, z .few);
           before = omega arith;
-          rowed = l ∙ z .rowed;
-          room = m ∙ z .room;
+          rowed = numbered-rowed;
+          room = numbered-room;
           same = rw (add-one i) (sym (less i (number - i) (number - suc i) (off d) (todo s msg q) (omega arith)) ∙ here (NextOff q d) c);
         }
 
-    pub numbered-end : t ≡ NextNone → told (End i) out′ ≡ numbered 0 (pages s (items msg)) number
-    numbered-end c = here NextNone c
+    pub numbered-end : t ≡ NextNone → Tells (End i)
+    numbered-end c = record { ends = here NextNone c; few = omega arith; rowed = numbered-rowed; room = numbered-room }
 
-    pub numbered-refused : (x : Refusal) → t ≡ NextRefused x → told (Refused x) out′ ≡ numbered 0 (pages s (items msg)) number
-    numbered-refused x c = go (number - i) ∙ here (NextRefused x) c
+    pub numbered-refused : (x : Refusal) → t ≡ NextRefused x → Tells (Refused x)
+    numbered-refused x c = record { ends = go (number - i) ∙ here (NextRefused x) c; few = omega arith; rowed = numbered-rowed; room = numbered-room }
       where
         go : (j : ℕ) → told (Refused x) out′ ≡ numbered i (refusedPage x ∷ []) j
         go zero = refl
         go (suc j) = refl
 
     countable : (u : NextPage) → t ≡ u → Countable u
-    countable (NextOn q d n) c = let g : Keeps (s .config) (length msg) (p .at) (weight (p .«page_state»)) (NextOn q d n) = keeps (NextOn q d n) c in omega (arith, g .2)
+    countable (NextOn q d n) c = let g : Keeps (s .config) (length msg) (p .at) (weight (p .«page_state»)) (NextOn q d n) = keeps (NextOn q d n) c in omega (arith, g .2, z .ready .small)
     countable (NextOff q d) c = tt
     countable NextNone c = tt
     countable (NextRefused x) c = tt
 
-    pub next-countable : Countable t
-    next-countable = countable t refl
+    pub next-answerable : Answerable t i
+    next-answerable = record { few = count-small; countable = countable t refl }
 
     asked : (j : ℕ) (u : NextPage) → j ≡ 0 → told (answerBy u i) out′ ≡ numbered i (nextTold s msg out′ u) j
     asked j (NextOn q d n) h = rw (h, spans-length out′ n)
@@ -126,11 +143,13 @@ module _ (s : Board) (msg : List ℕ) (number R O : ℕ) (rows out : List ℕ) (
     few NextNone c = omega arith
     few (NextRefused x) c = omega arith
 
-    pub numbered-few : (r : Answer) → r ≡ answerBy t i → countOf r ≤ length msg
-    numbered-few r c = subst (λ (x : Answer). countOf x ≤ length msg) (sym c) (few t refl)
-
-    pub numbered-asked : (r : Answer) → number ≤ i → r ≡ answerBy t i → told r out′ ≡ numbered 0 (pages s (items msg)) number
-    numbered-asked r h c = ap (λ (x : Answer). told x out′) c ∙ asked (number - i) t (omega arith) ∙ here t refl
+    pub numbered-asked : (r : Answer) → number ≤ i → r ≡ answerBy t i → Tells r
+    numbered-asked r h c = record {
+      ends = ap (λ (x : Answer). told x out′) c ∙ asked (number - i) t (omega arith) ∙ here t refl;
+      few = subst (λ (x : Answer). countOf x ≤ length msg) (sym c) (few t refl);
+      rowed = numbered-rowed;
+      room = numbered-room;
+    }
 
 pub countable-on : (t : NextPage) (p : Pages) (d n : ℕ) → Countable t → t ≡ NextOn p d n → n < 65536
 countable-on t p d n h q = subst Countable q h
@@ -149,18 +168,24 @@ not-false : (w : Bool) → not w ≡ false → w ≡ true
 not-false true e = refl
 not-false false e = absurd (let z : _≡_ {A = ℕ} 0 1 = cc in omega arith)
 
-module _ (s : Board) (msg : List ℕ) (n room : ℕ) where
-  pub too-long : (l : List ℕ) (r : Answer) → 2048 < length msg → r ≡ Refused (refusal 2 0 0 0) → told r l ≡ checked s msg n room
-  too-long l r h e = rw (e, lt-ltb 2048 (length msg) h)
+module _ (file : List ℕ) (table : SignFile) (msg : List ℕ) (n room : ℕ) (out out′ : List ℕ) (r : Answer) where
+  -- a refusal
+  none-told : (x : Refusal) → r ≡ Refused x → told (Refused x) out ≡ checked (boardIn file msg (table .config)) msg n room → Checked file table msg n room out out r
+  none-told x e d = record { ends = ap (λ (a : Answer). told a out) e ∙ d; few = none-counted r x (length out) e; long = refl }
 
-  pub ill-formed : (l : List ℕ) (r : Answer) (w : Bool) → length msg ≤ 2048 → w ≡ wellFormed msg → not w ≡ true → r ≡ Refused (refusal 3 0 0 0) → told r l ≡ checked s msg n room
-  ill-formed l r w h e f d = rw (d, le-ltb 2048 (length msg) h, ← e, not-true w f)
+  pub too-long : 2048 < length msg → r ≡ Refused (refusal 2 0 0 0) → Checked file table msg n room out out r
+  too-long h e = none-told (refusal 2 0 0 0) e (rw (lt-ltb 2048 (length msg) h))
 
-  pub no-room : (l : List ℕ) (r : Answer) (w : Bool) → length msg ≤ 2048 → w ≡ wellFormed msg → not w ≡ false → room < 1400 → r ≡ Refused (refusal 4 0 0 0) → told r l ≡ checked s msg n room
-  no-room l r w h e f g d = rw (d, le-ltb 2048 (length msg) h, ← e, not-false w f, lt-ltb room 1400 g)
+  -- w: the message is well-formed
+  module _ (w : Bool) (h : length msg ≤ 2048) (e : w ≡ wellFormed msg) where
+    pub ill-formed : not w ≡ true → r ≡ Refused (refusal 3 0 0 0) → Checked file table msg n room out out r
+    ill-formed f d = none-told (refusal 3 0 0 0) d (rw (le-ltb 2048 (length msg) h, ← e, not-true w f))
 
-  pub all-well : (x : Result) (w : Bool) → length msg ≤ 2048 → w ≡ wellFormed msg → not w ≡ false → 1400 ≤ room → x ≡ numbered 0 (pages s (items msg)) n → x ≡ checked s msg n room
-  all-well x w h e f g d = rw (le-ltb 2048 (length msg) h, ← e, not-false w f, le-ltb room 1400 g) d
+    pub no-room : not w ≡ false → room < 1400 → r ≡ Refused (refusal 4 0 0 0) → Checked file table msg n room out out r
+    no-room f g d = none-told (refusal 4 0 0 0) d (rw (le-ltb 2048 (length msg) h, ← e, not-false w f, lt-ltb room 1400 g))
+
+    pub all-well : not w ≡ false → 1400 ≤ room → told r out′ ≡ numbered 0 (pages (boardIn file msg (table .config)) (items msg)) n → countOf r ≤ length msg → length out′ ≡ length out → (length msg ≤ 2048 → 15 * length msg ≤ length out) → Checked file table msg n room out out′ r
+    all-well f g d k l q = record { ends = rw (le-ltb 2048 (length msg) h, ← e, not-false w f, le-ltb room 1400 g) d; few = omega (arith, q h); long = l }
 
 -- ---- the sign file
 

@@ -1,12 +1,12 @@
 // The computation of an answer: sign file, message, answer number and room give the answer, and its records as rows of numbers.
 ghost use mathlib.Core.Path.{_≡_};
-ghost use Prim.Native.Nat.{_*_, _≤_, _<_};
+ghost use Prim.Native.Nat.{_*_, _≤_};
 ghost use lib.ListN.{length};
 ghost use Rattle.layout.specs.Types.{items, refusal as refusalOf};
-ghost use Rattle.layout.specs.Listing.{pages as pagesOf, numbered as numberedOf, checked as checkedOf, result};
+ghost use Rattle.layout.specs.Listing.{pages as pagesOf, numbered as numberedOf, result};
 ghost use Rattle.meter.specs.Gauges.{Opened};
-ghost use Rattle.pages.specs.Pages.{boardIn};
-ghost use Rattle.answer.specs.Answer.{told, answerBy, Countable, countOf};
+ghost use Rattle.pages.specs.Pages.{boardIn, Ready};
+ghost use Rattle.answer.specs.Answer.{told, answerBy, Answerable, countOf, Numbered, Checked};
 ghost use Rattle.rows.specs.Rows.{spansOf};
 use layout::Answer;
 use pages::NextPage;
@@ -28,7 +28,7 @@ fn refuse(number: u8, start: u16) -> Answer
 
 // The answer that comes next, after count others.
 fn answer_of(n: NextPage, count: usize) -> Answer
-    requires { ⌜ (count < 65536) × Countable n ⌝ }
+    requires { ⌜ Answerable n count ⌝ }
     ensures { λ r. ⌜ r ≡ answerBy n count ⌝ }
 {
     match n {
@@ -48,10 +48,8 @@ fn numbered(
     rows: &mut [u16],
     out: &mut [u16],
 ) -> Answer
-    requires { ⌜ Opened (now file) table × (length (now msg) ≤ 2048) × (19 * length (now msg) ≤ length (now rows)) × (15 * length (now msg) ≤ length (now out)) ⌝ }
-    ensures { λ r. ⌜ (told r (now (out .exit)) ≡ numberedOf 0 (pagesOf (boardIn (now (file .entry)) (now (msg .entry)) (table .config)) (items (now (msg .entry)))) number)
-        × (countOf r ≤ length (now (msg .entry)))
-        × (length (now (rows .exit)) ≡ length (now (rows .entry))) × (length (now (out .exit)) ≡ length (now (out .entry))) ⌝ }
+    requires { ⌜ Ready (now file) table (now msg) (now rows) (now out) ⌝ }
+    ensures { λ r. ⌜ Numbered (now (file .entry)) table (now (msg .entry)) number (now (rows .entry)) (now (out .entry)) (now (rows .exit)) (now (out .exit)) r ⌝ }
 {
     let mut p = pages::first(table.config);
     let mut i: usize = 0;
@@ -101,9 +99,7 @@ fn checked(
     out: &mut [u16],
 ) -> Answer
     requires { ⌜ Opened (now file) table × ((h : length (now msg) ≤ 2048) → 15 * length (now msg) ≤ length (now out)) ⌝ }
-    ensures { λ r. ⌜ (told r (now (out .exit)) ≡ checkedOf (boardIn (now (file .entry)) (now (msg .entry)) (table .config)) (now (msg .entry)) number room)
-        × (15 * countOf r ≤ length (now (out .entry)))
-        × (length (now (out .exit)) ≡ length (now (out .entry))) ⌝ }
+    ensures { λ r. ⌜ Checked (now (file .entry)) table (now (msg .entry)) number room (now (out .entry)) (now (out .exit)) r ⌝ }
 {
     if 2048 < msg.len() {
         return refuse(2, 0);

@@ -10,6 +10,7 @@ use lib.ListN.{length}
 use Rattle.token.specs.Token.{slices}
 use Rattle.reading.specs.declared.Refusal.{Refusal}
 use Rattle.records.specs.declared.Config.{Config}
+use Rattle.sign.specs.declared.SignFile.{SignFile}
 use Rattle.layout.specs.declared.RenderState.{RenderState}
 use Rattle.layout.specs.Types.{Item, items, Board}
 use Rattle.layout.specs.Read.{Scan, scan, stopIf, read, opening, events}
@@ -27,7 +28,7 @@ use Rattle.pages.specs.declared.PageEnd.the-variants.{Refused as Refused
 use Rattle.pages.specs.declared.Pages.{Pages}
 use Rattle.pages.specs.declared.NextPage.{NextPage}
 use Rattle.pages.specs.declared.NextPage.the-variants.{Off as NextOff, End as NextNone, Refused as NextRefused}
-use Rattle.pages.specs.Pages.{run, turned, pageTold, PageFits, pagesAt, shownBy, offBy, firstOf, todoBy, todo, nextTold, Sound, weight, Keeps}
+use Rattle.pages.specs.Pages.{run, turned, pageTold, PageFits, pagesAt, shownBy, offBy, firstOf, todoBy, todo, nextTold, Sound, weight, Keeps, boardIn, PagePlaced, Answered, Tells}
 use Rattle.pages.proofs.Laws.{whole-inside}
 
 -- ---- an on page
@@ -83,51 +84,42 @@ shown-keeps c all p a b (RefusedEnd r) h f = tt
 shown-keeps c all p a b (NextEnd at n st) h f = (record { within = f .2; inside = f .3 }, omega (arith, new-weight (ltb 0 b), f .1), f .0)
 shown-keeps c all p a b (LastEnd n) h f = (record { within = h .within; inside = h .inside }, omega (arith, done-weight (ltb 0 b)), f)
 
-module _ (s : Board) (msg : List ℕ) (p : Pages) (q : PageScan) (e : scanTold q ≡ scan (s .config) (p .on) (p .off) (itemsFrom (p .at) msg)) where
-  abbrev Told : List ℕ → NextPage → Type 0
-  Told l r = (turned s (itemsFrom (p .at) msg) (p .on) (p .off) (p .«render_state») ≡ nextTold s msg l r) × Keeps (s .config) (length msg) (p .at) 2 r
+module _ (file : List ℕ) (table : SignFile) (msg : List ℕ) (p : Pages) (q : PageScan) (e : scanTold q ≡ scan (table .config) (p .on) (p .off) (itemsFrom (p .at) msg)) where
+  abbrev s : Board
+  s = boardIn file msg (table .config)
 
-  pub on-stop : (l : List ℕ) (o : OptRefusal) (x : Refusal) → o ≡ q .fault → o ≡ Some x → Told l (NextRefused x)
-  on-stop l o x d h = (on-refused s msg (itemsFrom (p .at) msg) (p .on) (p .off) (p .«render_state») q e x (sym d ∙ h), tt)
+  pub on-stop : {rows out : List ℕ} {x : Refusal} → q .fault ≡ Some x → Answered file table msg p rows out rows out (NextRefused x)
+  on-stop {x = x} h = record { ends = on-refused s msg (itemsFrom (p .at) msg) (p .on) (p .off) (p .«render_state») q e x h; keeps = tt; rowed = refl; room = refl }
 
-  pub on-shown : (l : List ℕ) (o : OptRefusal) (v : PageEnd) (r : NextPage) → o ≡ q .fault → o ≡ None → ((a b : ℕ) → run s (itemsFrom (p .at) msg) a b (p .«render_state») [] 0 ≡ pageTold s msg a b l v)
-      → PageFits (s .config) (p .at) (length msg) v → Sound (s .config) (length msg) p → r ≡ shownBy p (q .on) (q .off) v → Told l r
-  on-shown l o v r d h t f z k = (
-    on-run s msg (itemsFrom (p .at) msg) (p .on) (p .off) (p .«render_state») q e (sym d ∙ h) ∙ t (q .on) (q .off) ∙ shown-told s msg p (q .on) (q .off) l v ∙ ap (nextTold s msg l) (sym k),
-    subst (Keeps (s .config) (length msg) (p .at) 2) (sym k) (shown-keeps (s .config) (length msg) p (q .on) (q .off) v z f),
-  )
+  pub on-shown : {rows out rows′ out′ : List ℕ} {v : PageEnd} {r : NextPage} → q .fault ≡ None → Sound (table .config) (length msg) p → PagePlaced file table msg (p .at) (p .«render_state») rows out rows′ out′ v → r ≡ shownBy p (q .on) (q .off) v
+      → Answered file table msg p rows out rows′ out′ r
+  on-shown {out′ = l} {v = v} h z t k = record {
+    ends = on-run s msg (itemsFrom (p .at) msg) (p .on) (p .off) (p .«render_state») q e h ∙ t .ends (q .on) (q .off) ∙ shown-told s msg p (q .on) (q .off) l v ∙ ap (nextTold s msg l) (sym k);
+    keeps = subst (Keeps (s .config) (length msg) (p .at) 2) (sym k) (shown-keeps (s .config) (length msg) p (q .on) (q .off) v z (t .fits));
+    rowed = t .rowed;
+    room = t .room;
+  }
 
 -- ---- the next answer
 
-module _ (s : Board) (msg : List ℕ) (p : Pages) (w : PageState) (d : w ≡ p .«page_state») (z : Sound (s .config) (length msg) p) where
-  abbrev Answers : List ℕ → NextPage → Type 0
-  Answers l r = (todo s msg p ≡ nextTold s msg l r) × Keeps (s .config) (length msg) (p .at) (weight (p .«page_state»)) r
+module _ {file : List ℕ} {table : SignFile} {msg : List ℕ} {p : Pages} {rows out rows′ out′ : List ℕ} {r : NextPage} where
+  pub next-on : {b : Bool} → p .«page_state» ≡ OnState b → Answered file table msg p rows out rows′ out′ r → Tells file table msg p rows out rows′ out′ r (p .«page_state»)
+  next-on q h = subst (Tells file table msg p rows out rows′ out′ r) (sym q) (record { ends = h .ends; keeps = h .keeps; rowed = h .rowed; room = h .room })
 
-  -- the same in a state
-  abbrev In : PageState → List ℕ → NextPage → Type 0
-  In x l r = (todoBy s msg p x ≡ nextTold s msg l r) × Keeps (s .config) (length msg) (p .at) (weight x) r
-
-  back : (x : PageState) → w ≡ x → (l : List ℕ) (r : NextPage) → In x l r → Answers l r
-  back x q l r h = subst (λ (y : PageState). In y l r) (sym q ∙ d) h
-
-  pub next-on : (b : Bool) → w ≡ OnState b → (l : List ℕ) (r : NextPage) → turned s (itemsFrom (p .at) msg) (p .on) (p .off) (p .«render_state») ≡ nextTold s msg l r → Keeps (s .config) (length msg) (p .at) 2 r → Answers l r
-  next-on b q l r h k = back (OnState b) q l r (h, k)
-
+module _ (file : List ℕ) (table : SignFile) (msg : List ℕ) (p : Pages) (rows out : List ℕ) (z : Sound (table .config) (length msg) p) where
   -- an off page in a state
   abbrev offIn : PageState → NextPage
   offIn x = NextOff (pagesAt (p .at) (p .«render_state») (p .on) (p .off) (nextState x)) (p .off)
 
-  off-in : (b : Bool) (l : List ℕ) → In (OffState b) l (offIn (OffState b))
-  off-in true l = (refl, (record { within = z .within; inside = z .inside }, omega arith))
-  off-in false l = (refl, (record { within = z .within; inside = z .inside }, omega arith))
+  off-in : (b : Bool) → Tells file table msg p rows out rows out (offIn (OffState b)) (OffState b)
+  off-in true = record { ends = refl; keeps = (record { within = z .within; inside = z .inside }, omega arith); rowed = refl; room = refl }
+  off-in false = record { ends = refl; keeps = (record { within = z .within; inside = z .inside }, omega arith); rowed = refl; room = refl }
 
-  pub next-off : (b : Bool) → w ≡ OffState b → (l : List ℕ) (r : NextPage) → r ≡ offBy p → Answers l r
-  next-off b q l r k =
-      let h : OffState b ≡ p .«page_state» = sym q ∙ d in
-      subst (Answers l) (ap offIn h ∙ sym k) (back (OffState b) q l (offIn (OffState b)) (off-in b l))
+  pub next-off : (b : Bool) (r : NextPage) → p .«page_state» ≡ OffState b → r ≡ offBy p → Tells file table msg p rows out rows out r (p .«page_state»)
+  next-off b r q k = subst (λ (y : NextPage). Tells file table msg p rows out rows out y (p .«page_state»)) (sym k) (subst (λ (x : PageState). Tells file table msg p rows out rows out (offIn x) x) (sym q) (off-in b))
 
-  pub next-done : w ≡ Done → (l : List ℕ) → Answers l NextNone
-  next-done q l = back Done q l NextNone (refl, tt)
+  pub next-done : p .«page_state» ≡ Done → Tells file table msg p rows out rows out NextNone (p .«page_state»)
+  next-done q = subst (Tells file table msg p rows out rows out NextNone) (sym q) (record { ends = refl; keeps = tt; rowed = refl; room = refl })
 
 -- ---- before the first answer
 

@@ -11,6 +11,7 @@ use lib.ListN.{length}
 use borrow.Author.Tests.{lt-ltb, le-ltb}
 use Rattle.reading.specs.declared.Refusal.{Refusal}
 use Rattle.records.specs.declared.Config.{Config}
+use Rattle.sign.specs.declared.SignFile.{SignFile}
 use Rattle.layout.specs.declared.Rect.{Rect}
 use Rattle.layout.specs.declared.RenderState.{RenderState}
 use Rattle.layout.specs.declared.Entry.{Entry}
@@ -27,7 +28,7 @@ use Rattle.pass.specs.Pass.{Ending, refused, cut, turn, ended, entriesOf, endin
 use Rattle.pass.proofs.Read.{read-pass}
 use Rattle.pages.specs.declared.PageEnd.{PageEnd}
 use Rattle.pages.specs.declared.PageEnd.the-variants.{Refused as RefusedEnd, Next as NextEnd, Last as LastEnd}
-use Rattle.pages.specs.Pages.{stopBy, placedEnding, Written, Fits, run, turned, lastOf, pageTold, PageFits}
+use Rattle.pages.specs.Pages.{boardIn, Ready, PassReady, stopBy, placedEnding, Written, Fits, Placed, run, turned, lastOf, pageTold, PageFits, PagePlaced}
 
 -- ---- layout's answers, by a pass's ending
 
@@ -62,79 +63,90 @@ run-pass s its a b st rs n = ap (λ (l : List Event). walk s l a b rs n) (read-p
 
 -- ---- the loop over the passes of a page
 
-pub record Stands (s : Board) (msg : List ℕ) (from : ℕ) (first : RenderState) (R O : ℕ) (rows out : List ℕ) (at : ℕ) (st : RenderState) (n k : ℕ) : Type 0 where
+pub record Stands (file : List ℕ) (table : SignFile) (msg : List ℕ) (from : ℕ) (first : RenderState) (rows₀ out₀ rows out : List ℕ) (at : ℕ) (st : RenderState) (n k : ℕ) : Type 0 where
   pub counted : n ≤ at
   pub begun : from ≤ at
   pub within : at ≤ length msg
-  pub inside : Inside (s .config) (st .rect)
-  pub rowed : length rows ≡ R
-  pub room : length out ≡ O
-  pub same : (a b : ℕ) → run s (itemsFrom at msg) a b st (spansOf out n) k ≡ run s (itemsFrom from msg) a b first [] 0
+  pub inside : Inside (table .config) (st .rect)
+  pub rowed : length rows ≡ length rows₀
+  pub room : length out ≡ length out₀
+  pub same : (a b : ℕ) → run (boardIn file msg (table .config)) (itemsFrom at msg) a b st (spansOf out n) k ≡ run (boardIn file msg (table .config)) (itemsFrom from msg) a b first [] 0
 
-pub page-start : (s : Board) (msg : List ℕ) (from : ℕ) (first : RenderState) (rows out : List ℕ) → from ≤ length msg → Inside (s .config) (first .rect) → Stands s msg from first (length rows) (length out) rows out from first 0 0
+pub page-start : {file : List ℕ} {table : SignFile} {msg : List ℕ} {from : ℕ} {first : RenderState} {rows out : List ℕ} → from ≤ length msg → Inside (table .config) (first .rect) → Stands file table msg from first rows out rows out from first 0 0
 unfolding spansOf
-page-start s msg from first rows out h i = record { counted = omega arith; begun = omega arith; within = h; inside = i; rowed = refl; room = refl; same = λ a b. refl }
+page-start h i = record { counted = omega arith; begun = omega arith; within = h; inside = i; rowed = refl; room = refl; same = λ a b. refl }
 
 pub whole-inside : (c : Config) → Inside c (whole c)
 whole-inside c = record { across = omega arith; down = omega arith }
 
-module _ (s : Board) (msg : List ℕ) (from : ℕ) (first : RenderState) (R O : ℕ) (rows out : List ℕ) (at : ℕ) (st : RenderState) (n k : ℕ) (z : Stands s msg from first R O rows out at st n k) where
+module _ {file : List ℕ} {table : SignFile} {msg : List ℕ} {from : ℕ} {first : RenderState} {rows₀ out₀ rows out : List ℕ} {at : ℕ} {st : RenderState} {n k : ℕ} (z : Stands file table msg from first rows₀ out₀ rows out at st n k) where
+  pub page-asks : Ready file table msg rows₀ out₀ → PassReady file table msg rows out at st n
+  page-asks r = record { ready = record { opened = r .opened; small = r .small; rowed = omega arith; room = omega arith }; within = z .within; counted = z .counted; inside = z .inside }
+
+  abbrev s : Board
+  s = boardIn file msg (table .config)
+
   abbrev es : List Entry
   es = entriesOf (s .config) (itemsFrom at msg) st true
 
   -- a pass was read and placed: t is its end
-  module _ (rows′ out′ : List ℕ) (t : PassEnd) (e : told msg t ≡ placedEnding s es (endingOf (s .config) (itemsFrom at msg) st true)) (w : Written s es (spansOf out n) out′ t) (f : Fits (s .config) at (length msg) t) (p : length rows′ ≡ length rows) (q : length out′ ≡ length out) where
-    l : length rows′ ≡ R
-    l = p ∙ z .rowed
+  module _ {rows′ out′ : List ℕ} {t : PassEnd} (p : Placed file table msg at st rows out n rows′ out′ t) where
+    -- a page that ended so
+    abbrev Ends : PageEnd → Type 0
+    Ends = PagePlaced file table msg from first rows₀ out₀ rows′ out′
 
-    m : length out′ ≡ O
-    m = q ∙ z .room
+    pub page-rowed : length rows′ ≡ length rows₀
+    page-rowed = p .rowed ∙ z .rowed
+
+    pub page-room : length out′ ≡ length out₀
+    page-room = p .room ∙ z .room
 
     here : (a b : ℕ) (u : PassEnd) → t ≡ u → runBy s a b k (spansOf out n) es (told msg u) ≡ run s (itemsFrom from msg) a b first [] 0
-    here a b u q = ap (λ (x : PassEnd). runBy s a b k (spansOf out n) es (told msg x)) (sym q) ∙ ap (runBy s a b k (spansOf out n) es) e ∙ sym (run-pass s (itemsFrom at msg) a b st (spansOf out n) k) ∙ z .same a b
+    here a b u q = ap (λ (x : PassEnd). runBy s a b k (spansOf out n) es (told msg x)) (sym q) ∙ ap (runBy s a b k (spansOf out n) es) (p .ends) ∙ sym (run-pass s (itemsFrom at msg) a b st (spansOf out n) k) ∙ z .same a b
 
     written : (u : PassEnd) → t ≡ u → Written s es (spansOf out n) out′ u
-    written u q = subst (Written s es (spansOf out n) out′) q w
+    written u q = subst (Written s es (spansOf out n) out′) q (p .written)
 
     fits : (u : PassEnd) → t ≡ u → Fits (s .config) at (length msg) u
-    fits u q = subst (Fits (s .config) at (length msg)) q f
+    fits u q = subst (Fits (s .config) at (length msg)) q (p .fits)
 
     not-full : k < 50 → full k ≡ none
     unfolding unless
     not-full h = rw (lt-ltb k 50 h)
 
-    pub page-refuse : (x : Refusal) → t ≡ RefusedPass x → ((a b : ℕ) → run s (itemsFrom from msg) a b first [] 0 ≡ pageTold s msg a b out′ (RefusedEnd x)) × PageFits (s .config) from (length msg) (RefusedEnd x) × (length rows′ ≡ R) × (length out′ ≡ O)
-    page-refuse x q = ((λ a b. sym (here a b (RefusedPass x) q)), tt, l, m)
+    pub page-refuse : {x : Refusal} → t ≡ RefusedPass x → Ends (RefusedEnd x)
+    page-refuse {x} q = record { ends = λ a b. sym (here a b (RefusedPass x) q); fits = tt; rowed = page-rowed; room = page-room }
 
-    pub page-turn : (end i : ℕ) (r : Rect) (st′ : RenderState) (v : RenderState) → t ≡ TurnPass end i r st′ → k < 50 → v ≡ newPage (s .config) st′
-        → ((a b : ℕ) → run s (itemsFrom from msg) a b first [] 0 ≡ pageTold s msg a b out′ (NextEnd end i v)) × PageFits (s .config) from (length msg) (NextEnd end i v) × (length rows′ ≡ R) × (length out′ ≡ O)
-    page-turn end i r st′ v q h d =
-        let g : Fits (s .config) at (length msg) (TurnPass end i r st′) = fits (TurnPass end i r st′) q in (
-          (λ a b. sym (here a b (TurnPass end i r st′) q) ∙ ap (λ (o : Option Refusal). stopAt o (on a (spansOf out n ++ passRecords s r es) ∷ offs b (turned s (itemsFrom end msg) a b (newPage (s .config) st′)))) (not-full h)
-              ∙ ap (λ (y : List Span). on a y ∷ offs b (turned s (itemsFrom end msg) a b (newPage (s .config) st′))) (sym (written (TurnPass end i r st′) q)) ∙ ap (λ (y : RenderState). on a (spansOf out′ i) ∷ offs b (turned s (itemsFrom end msg) a b y)) (sym d)),
-          (omega (arith, g .0, g .2), omega (arith, g .1, z .begun), g .2, rw d (whole-inside (s .config))),
-          l,
-          m,
-        )
+    pub page-turn : {end i : ℕ} {r : Rect} {st′ v : RenderState} → t ≡ TurnPass end i r st′ → k < 50 → v ≡ newPage (s .config) st′ → Ends (NextEnd end i v)
+    page-turn {end} {i} {r} {st′} {v} q h d =
+        let g : Fits (s .config) at (length msg) (TurnPass end i r st′) = fits (TurnPass end i r st′) q in
+        record {
+          ends = λ a b.
+              sym (here a b (TurnPass end i r st′) q) ∙ ap (λ (o : Option Refusal). stopAt o (on a (spansOf out n ++ passRecords s r es) ∷ offs b (turned s (itemsFrom end msg) a b (newPage (s .config) st′)))) (not-full h)
+              ∙ ap (λ (y : List Span). on a y ∷ offs b (turned s (itemsFrom end msg) a b (newPage (s .config) st′))) (sym (written (TurnPass end i r st′) q)) ∙ ap (λ (y : RenderState). on a (spansOf out′ i) ∷ offs b (turned s (itemsFrom end msg) a b y)) (sym d);
+          fits = (omega (arith, g .0, g .2), omega (arith, g .1, z .begun), g .2, rw d (whole-inside (s .config)));
+          rowed = page-rowed;
+          room = page-room;
+        }
 
-    pub page-end : (i : ℕ) (r : Rect) → t ≡ EndPass i r → k < 50 → ((a b : ℕ) → run s (itemsFrom from msg) a b first [] 0 ≡ pageTold s msg a b out′ (LastEnd i)) × PageFits (s .config) from (length msg) (LastEnd i) × (length rows′ ≡ R) × (length out′ ≡ O)
-    page-end i r q h = (
-      (λ a b. sym (here a b (EndPass i r) q) ∙ ap (λ (o : Option Refusal). stopAt o (on a (spansOf out n ++ passRecords s r es) ∷ offs b [])) (not-full h) ∙ ap (λ (y : List Span). on a y ∷ offs b []) (sym (written (EndPass i r) q))),
-      fits (EndPass i r) q,
-      l,
-      m,
-    )
+    pub page-end : {i : ℕ} {r : Rect} → t ≡ EndPass i r → k < 50 → Ends (LastEnd i)
+    page-end {i} {r} q h = record {
+      ends = λ a b. sym (here a b (EndPass i r) q) ∙ ap (λ (o : Option Refusal). stopAt o (on a (spansOf out n ++ passRecords s r es) ∷ offs b [])) (not-full h) ∙ ap (λ (y : List Span). on a y ∷ offs b []) (sym (written (EndPass i r) q));
+      fits = fits (EndPass i r) q;
+      rowed = page-rowed;
+      room = page-room;
+    }
 
-    pub page-cut : (end i : ℕ) (r : Rect) (st′ : RenderState) → t ≡ CutPass end i r st′ → k < 50 → Stands s msg from first R O rows′ out′ end st′ i (k + 1)
-    page-cut end i r st′ q h =
+    pub page-cut : {end i : ℕ} {r : Rect} {st′ : RenderState} → t ≡ CutPass end i r st′ → k < 50 → Stands file table msg from first rows₀ out₀ rows′ out′ end st′ i (k + 1)
+    page-cut {end} {i} {r} {st′} q h =
         let g : Fits (s .config) at (length msg) (CutPass end i r st′) = fits (CutPass end i r st′) q in
         record {
           counted = g .0;
           begun = omega (arith, g .1, z .begun);
           within = g .2;
           inside = g .3;
-          rowed = l;
-          room = m;
+          rowed = page-rowed;
+          room = page-room;
           same = λ a b.
               ap (λ (y : List Span). run s (itemsFrom end msg) a b st′ y (k + 1)) (written (CutPass end i r st′) q) ∙ ap (run s (itemsFrom end msg) a b st′ (spansOf out n ++ passRecords s r es)) (add-one k)
               ∙ sym (ap (λ (o : Option Refusal). stopAt o (run s (itemsFrom end msg) a b st′ (spansOf out n ++ passRecords s r es) (suc k))) (not-full h)) ∙ here a b (CutPass end i r st′) q;
@@ -160,10 +172,10 @@ module _ (s : Board) (msg : List ℕ) (from : ℕ) (first : RenderState) (R O : 
     last-fits (TurnPass end i r st′) = tt
     last-fits (EndPass i r) = tt
 
-    pub page-last : (v : PageEnd) → 50 ≤ k → v ≡ lastOf t → ((a b : ℕ) → run s (itemsFrom from msg) a b first [] 0 ≡ pageTold s msg a b out′ v) × PageFits (s .config) from (length msg) v × (length rows′ ≡ R) × (length out′ ≡ O)
-    page-last v h d = (
-      (λ a b. last-is h t refl a b ∙ ap (pageTold s msg a b out′) (sym d)),
-      subst (PageFits (s .config) from (length msg)) (sym d) (last-fits t),
-      l,
-      m,
-    )
+    pub page-last : {v : PageEnd} → 50 ≤ k → v ≡ lastOf t → Ends v
+    page-last {v} h d = record {
+      ends = λ a b. last-is h t refl a b ∙ ap (pageTold s msg a b out′) (sym d);
+      fits = subst (PageFits (s .config) from (length msg)) (sym d) (last-fits t);
+      rowed = page-rowed;
+      room = page-room;
+    }

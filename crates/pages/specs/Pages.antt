@@ -6,8 +6,11 @@ use mathlib.Core.Bool.{true, false}
 use mathlib.Core.Option.{Option, none, some}
 use mathlib.Core.List.{List, [], _∷_, _++_}
 use lib.Dec.{ltb}
+use lib.ListN.{length}
 use Rattle.reading.specs.declared.Refusal.{Refusal}
 use Rattle.records.specs.declared.Config.{Config}
+use Rattle.sign.specs.declared.SignFile.{SignFile}
+use Rattle.layout.specs.declared.Rect.{Rect}
 use Rattle.layout.specs.declared.RenderState.{RenderState}
 use Rattle.layout.specs.declared.Entry.{Entry}
 use Rattle.layout.specs.declared.Span.{Span}
@@ -19,11 +22,12 @@ use Rattle.page.specs.declared.PageState.{PageState}
 use Rattle.page.specs.declared.PageState.the-variants.{On as OnState, Off as OffState, Done}
 use Rattle.page.specs.State.{newPage as newState, doneAfter, nextState}
 use Rattle.page.specs.Scan.{itemsFrom}
-use Rattle.rows.specs.Rows.{spansOf}
-use Rattle.meter.specs.Gauges.{meterIn}
+use Rattle.rows.specs.Rows.{rowsOf, spansOf}
+use Rattle.place.specs.Placed.{smallFaults, rowsFault, rowsRecords}
+use Rattle.meter.specs.Gauges.{Opened, meterIn}
 use Rattle.pass.specs.declared.PassEnd.{PassEnd}
 use Rattle.pass.specs.declared.PassEnd.the-variants.{Refused as RefusedPass, Cut as CutPass, Turn as TurnPass, End as EndPass}
-use Rattle.pass.specs.Pass.{Ending, refused, cut, turn, ended, Inside}
+use Rattle.pass.specs.Pass.{Ending, refused, cut, turn, ended, entriesOf, endingOf, told, Inside}
 use Rattle.pages.specs.declared.PageEnd.{PageEnd}
 use Rattle.pages.specs.declared.PageEnd.the-variants.{Refused as RefusedEnd, Next as NextEnd, Last as LastEnd}
 use Rattle.pages.specs.declared.Pages.{Pages}
@@ -34,11 +38,40 @@ use Rattle.pages.specs.declared.NextPage.the-variants.{On as NextOn, Off
 abbrev pub boardIn : List ℕ → List ℕ → Config → Board
 boardIn file msg c = record { config = c; meter = meterIn file msg }
 
+-- a message for an accepted file, with room for its rows and its records
+pub record Ready (file : List ℕ) (table : SignFile) (msg rows out : List ℕ) : Type 0 where
+  pub opened : Opened file table
+  pub small : length msg ≤ 2048
+  pub rowed : 19 * length msg ≤ length rows
+  pub room : 15 * length msg ≤ length out
+
 -- ---- a pass that is placed
+
+-- the pass from a place on, with at records before it
+pub record PassReady (file : List ℕ) (table : SignFile) (msg rows out : List ℕ) (from : ℕ) (st : RenderState) (at : ℕ) : Type 0 where
+  pub ready : Ready file table msg rows out
+  pub within : from ≤ length msg
+  pub counted : at ≤ from
+  pub inside : Inside (table .config) (st .rect)
+
+-- n rows can be placed in the rectangle r, as records from number at on
+pub record Placeable (r : Rect) (rows : List ℕ) (n : ℕ) (out : List ℕ) (at : ℕ) : Type 0 where
+  pub few : at + n ≤ 2048
+  pub rowed : 19 * n ≤ length rows
+  pub room : 15 * (at + n) ≤ length out
+  pub across : r .left + r .width ≤ 4096
+  pub down : r .top + r .height ≤ 4096
+  pub faults : smallFaults rows n
 
 abbrev pub orRefused : Option Refusal → PassEnd → PassEnd
 orRefused none e = e
 orRefused (some r) e = RefusedPass r
+
+-- they were placed, or refused; ok is the end without a refusal, v the end with it
+pub record RowsPlaced (c : Config) (r : Rect) (rows : List ℕ) (n : ℕ) (out : List ℕ) (at : ℕ) (out′ : List ℕ) (ok v : PassEnd) : Type 0 where
+  pub ends : v ≡ orRefused (rowsFault c r (rowsOf rows n)) ok
+  pub written : rowsFault c r (rowsOf rows n) ≡ none → spansOf out′ (at + n) ≡ spansOf out at ++ rowsRecords c r (rowsOf rows n)
+  pub room : length out′ ≡ length out
 
 abbrev pub stopBy : Option Refusal → Ending → Ending
 stopBy none e = e
@@ -63,6 +96,14 @@ Fits c from all (RefusedPass r) = Unit {0}
 Fits c from all (CutPass at n r st) = (n ≤ at) × (from < at) × (at ≤ all) × Inside c (st .rect)
 Fits c from all (TurnPass at n r st) = (n ≤ at) × (from < at) × (at ≤ all)
 Fits c from all (EndPass n r) = n ≤ all
+
+-- the pass from a place on was read and placed, and ended so; rows and out were there before it, and rows′ and out′ are after it
+pub record Placed (file : List ℕ) (table : SignFile) (msg : List ℕ) (from : ℕ) (st : RenderState) (rows out : List ℕ) (at : ℕ) (rows′ out′ : List ℕ) (r : PassEnd) : Type 0 where
+  pub ends : told msg r ≡ placedEnding (boardIn file msg (table .config)) (entriesOf (table .config) (itemsFrom from msg) st true) (endingOf (table .config) (itemsFrom from msg) st true)
+  pub written : Written (boardIn file msg (table .config)) (entriesOf (table .config) (itemsFrom from msg) st true) (spansOf out at) out′ r
+  pub fits : Fits (table .config) from (length msg) r
+  pub rowed : length rows′ ≡ length rows
+  pub room : length out′ ≡ length out
 
 -- ---- a page
 
@@ -96,6 +137,13 @@ abbrev pub PageFits : Config → ℕ → ℕ → PageEnd → Type 0
 PageFits c from all (RefusedEnd r) = Unit {0}
 PageFits c from all (NextEnd at n st) = (n ≤ all) × (from < at) × (at ≤ all) × Inside c (st .rect)
 PageFits c from all (LastEnd n) = n ≤ all
+
+-- the page from a place on was read and placed, and ended so
+pub record PagePlaced (file : List ℕ) (table : SignFile) (msg : List ℕ) (from : ℕ) (first : RenderState) (rows out rows′ out′ : List ℕ) (r : PageEnd) : Type 0 where
+  pub ends : (a b : ℕ) → run (boardIn file msg (table .config)) (itemsFrom from msg) a b first [] 0 ≡ pageTold (boardIn file msg (table .config)) msg a b out′ r
+  pub fits : PageFits (table .config) from (length msg) r
+  pub rowed : length rows′ ≡ length rows
+  pub room : length out′ ≡ length out
 
 -- ---- an answer
 
@@ -150,3 +198,17 @@ Keeps c all at w (NextOn p d n) = Sound c all p × (2 * at + weight (p .«page_s
 Keeps c all at w (NextOff p d) = Sound c all p × (2 * at + weight (p .«page_state») + 1 ≤ 2 * p .at + w)
 Keeps c all at w NextNone = Unit {0}
 Keeps c all at w (NextRefused r) = Unit {0}
+
+-- an on page was answered so
+pub record Answered (file : List ℕ) (table : SignFile) (msg : List ℕ) (p : Pages) (rows out rows′ out′ : List ℕ) (r : NextPage) : Type 0 where
+  pub ends : turned (boardIn file msg (table .config)) (itemsFrom (p .at) msg) (p .on) (p .off) (p .«render_state») ≡ nextTold (boardIn file msg (table .config)) msg out′ r
+  pub keeps : Keeps (table .config) (length msg) (p .at) 2 r
+  pub rowed : length rows′ ≡ length rows
+  pub room : length out′ ≡ length out
+
+-- the next answer in a state
+pub record Tells (file : List ℕ) (table : SignFile) (msg : List ℕ) (p : Pages) (rows out rows′ out′ : List ℕ) (r : NextPage) (x : PageState) : Type 0 where
+  pub ends : todoBy (boardIn file msg (table .config)) msg p x ≡ nextTold (boardIn file msg (table .config)) msg out′ r
+  pub keeps : Keeps (table .config) (length msg) (p .at) (weight x) r
+  pub rowed : length rows′ ≡ length rows
+  pub room : length out′ ≡ length out

@@ -1,16 +1,10 @@
 // The pages of a message, one answer after the other, as the Rust's iterator `Pages` gives them.
 ghost use mathlib.Core.Path.{_≡_};
-ghost use mathlib.Core.Bool.{true};
-ghost use mathlib.Core.List.{[], _++_};
-ghost use mathlib.Core.Option.{none};
-ghost use Prim.Native.Nat.{ℕ, _+_, _*_, _≤_, _<_};
+ghost use Prim.Native.Nat.{_*_, _≤_};
 ghost use lib.ListN.{length};
-ghost use Rattle.page.specs.Scan.{itemsFrom};
-ghost use Rattle.rows.specs.Rows.{rowsOf, spansOf};
-ghost use Rattle.place.specs.Placed.{smallFaults, rowsFault, rowsRecords};
 ghost use Rattle.meter.specs.Gauges.{Opened};
-ghost use Rattle.pass.specs.Pass.{Inside, entriesOf, endingOf, told};
-ghost use Rattle.pages.specs.Pages.{boardIn, orRefused, placedEnding, Written, Fits, run, tooMany, lastOf, turned, pageTold, PageFits, shownBy, offBy, firstOf, todo, nextTold, Sound, weight, Keeps};
+ghost use Rattle.pass.specs.Pass.{Inside};
+ghost use Rattle.pages.specs.Pages.{boardIn, Ready, PassReady, Placeable, RowsPlaced, Placed, tooMany, lastOf, PagePlaced, shownBy, offBy, firstOf, todo, nextTold, Sound, weight, Keeps, Answered, Tells};
 use layout::Rect;
 use layout::RenderState;
 use page::OptRefusal;
@@ -54,10 +48,8 @@ fn place_read(
     at: usize,
     end: PassEnd,
 ) -> PassEnd
-    requires { ⌜ (at + n ≤ 2048) × (19 * n ≤ length (now rows)) × (15 * (at + n) ≤ length (now out)) × (rect .left + rect .width ≤ 4096) × (rect .top + rect .height ≤ 4096) × smallFaults (now rows) n ⌝ }
-    ensures { λ r. ⌜ (r ≡ orRefused (rowsFault c rect (rowsOf (now (rows .entry)) n)) end)
-        × (rowsFault c rect (rowsOf (now (rows .entry)) n) ≡ none → spansOf (now (out .exit)) (at + n) ≡ spansOf (now (out .entry)) at ++ rowsRecords c rect (rowsOf (now (rows .entry)) n))
-        × (length (now (out .exit)) ≡ length (now (out .entry))) ⌝ }
+    requires { ⌜ Placeable rect (now rows) n (now out) at ⌝ }
+    ensures { λ r. ⌜ RowsPlaced c rect (now (rows .entry)) n (now (out .entry)) at (now (out .exit)) end r ⌝ }
 {
     match place::place_pass(c, rect, rows, n, out, at) {
         OptRefusal::Some(r) => PassEnd::Refused(r),
@@ -76,11 +68,8 @@ fn render_pass(
     out: &mut [u16],
     at: usize,
 ) -> PassEnd
-    requires { ⌜ Opened (now file) table × (length (now msg) ≤ 2048) × (from ≤ length (now msg)) × (at ≤ from) × (19 * length (now msg) ≤ length (now rows)) × (15 * length (now msg) ≤ length (now out)) × Inside (table .config) (st .rect) ⌝ }
-    ensures { λ r. ⌜ (told (now (msg .entry)) r ≡ placedEnding (boardIn (now (file .entry)) (now (msg .entry)) (table .config)) (entriesOf (table .config) (itemsFrom from (now (msg .entry))) st true) (endingOf (table .config) (itemsFrom from (now (msg .entry))) st true))
-        × Written (boardIn (now (file .entry)) (now (msg .entry)) (table .config)) (entriesOf (table .config) (itemsFrom from (now (msg .entry))) st true) (spansOf (now (out .entry)) at) (now (out .exit)) r
-        × Fits (table .config) from (length (now (msg .entry))) r
-        × (length (now (rows .exit)) ≡ length (now (rows .entry))) × (length (now (out .exit)) ≡ length (now (out .entry))) ⌝ }
+    requires { ⌜ PassReady (now file) table (now msg) (now rows) (now out) from st at ⌝ }
+    ensures { λ r. ⌜ Placed (now (file .entry)) table (now (msg .entry)) from st (now (rows .entry)) (now (out .entry)) at (now (rows .exit)) (now (out .exit)) r ⌝ }
 {
     let c = table.config;
     match pass::read_pass(file, table, msg, from, st, rows) {
@@ -141,10 +130,8 @@ fn render_page(
     rows: &mut [u16],
     out: &mut [u16],
 ) -> PageEnd
-    requires { ⌜ Opened (now file) table × (length (now msg) ≤ 2048) × (from ≤ length (now msg)) × (19 * length (now msg) ≤ length (now rows)) × (15 * length (now msg) ≤ length (now out)) × Inside (table .config) (start .rect) ⌝ }
-    ensures { λ r. ⌜ ((a b : ℕ) → run (boardIn (now (file .entry)) (now (msg .entry)) (table .config)) (itemsFrom from (now (msg .entry))) a b start [] 0 ≡ pageTold (boardIn (now (file .entry)) (now (msg .entry)) (table .config)) (now (msg .entry)) a b (now (out .exit)) r)
-        × PageFits (table .config) from (length (now (msg .entry))) r
-        × (length (now (rows .exit)) ≡ length (now (rows .entry))) × (length (now (out .exit)) ≡ length (now (out .entry))) ⌝ }
+    requires { ⌜ Ready (now file) table (now msg) (now rows) (now out) × (from ≤ length (now msg)) × Inside (table .config) (start .rect) ⌝ }
+    ensures { λ r. ⌜ PagePlaced (now (file .entry)) table (now (msg .entry)) from start (now (rows .entry)) (now (out .entry)) (now (rows .exit)) (now (out .exit)) r ⌝ }
 {
     let c = table.config;
     let mut at = from;
@@ -214,10 +201,8 @@ fn render_on_page(
     rows: &mut [u16],
     out: &mut [u16],
 ) -> NextPage
-    requires { ⌜ Opened (now file) table × (length (now msg) ≤ 2048) × Sound (table .config) (length (now msg)) p × (19 * length (now msg) ≤ length (now rows)) × (15 * length (now msg) ≤ length (now out)) ⌝ }
-    ensures { λ r. ⌜ (turned (boardIn (now (file .entry)) (now (msg .entry)) (table .config)) (itemsFrom (p .at) (now (msg .entry))) (p .on) (p .off) (p .«render_state») ≡ nextTold (boardIn (now (file .entry)) (now (msg .entry)) (table .config)) (now (msg .entry)) (now (out .exit)) r)
-        × Keeps (table .config) (length (now (msg .entry))) (p .at) 2 r
-        × (length (now (rows .exit)) ≡ length (now (rows .entry))) × (length (now (out .exit)) ≡ length (now (out .entry))) ⌝ }
+    requires { ⌜ Ready (now file) table (now msg) (now rows) (now out) × Sound (table .config) (length (now msg)) p ⌝ }
+    ensures { λ r. ⌜ Answered (now (file .entry)) table (now (msg .entry)) p (now (rows .entry)) (now (out .entry)) (now (rows .exit)) (now (out .exit)) r ⌝ }
 {
     let c = table.config;
     let s = page::scan(msg, p.at, c, p.on, p.off);
@@ -248,6 +233,26 @@ fn render_off_page(p: Pages) -> NextPage
     NextPage::Off(q, p.off)
 }
 
+// The next answer, by the state.
+fn next_by(
+    file: &[u8],
+    table: SignFile,
+    msg: &[u8],
+    p: Pages,
+    rows: &mut [u16],
+    out: &mut [u16],
+) -> NextPage
+    requires { ⌜ Ready (now file) table (now msg) (now rows) (now out) × Sound (table .config) (length (now msg)) p ⌝ }
+    ensures { λ r. ⌜ Tells (now (file .entry)) table (now (msg .entry)) p (now (rows .entry)) (now (out .entry)) (now (rows .exit)) (now (out .exit)) r (p .«page_state») ⌝ }
+{
+    let state = p.page_state;
+    match state {
+        PageState::On(_) => render_on_page(file, table, msg, p, rows, out),
+        PageState::Off(_) => render_off_page(p),
+        PageState::Done => NextPage::End,
+    }
+}
+
 // The next answer.
 pub fn next(
     file: &[u8],
@@ -262,12 +267,7 @@ pub fn next(
         × Keeps (table .config) (length (now (msg .entry))) (p .at) (weight (p .«page_state»)) r
         × (length (now (rows .exit)) ≡ length (now (rows .entry))) × (length (now (out .exit)) ≡ length (now (out .entry))) ⌝ }
 {
-    let state = p.page_state;
-    match state {
-        PageState::On(_) => render_on_page(file, table, msg, p, rows, out),
-        PageState::Off(_) => render_off_page(p),
-        PageState::Done => NextPage::End,
-    }
+    next_by(file, table, msg, p, rows, out)
 }
 
 // Before the first answer.

@@ -1,10 +1,13 @@
 -- A pass as the code reads it: its spans, and how it ends. `read-pass` of proofs/Read.antt says that layout's `read` is made of these.
-use Prim.Native.Nat.{ℕ, _+_, _≤_, _<_}
+use Prim.Native.Nat.{ℕ, _+_, _*_, _-_, _≤_, _<_}
 use mathlib.Core.Path.{_≡_}
 use mathlib.Core.Bool.{Bool, true}
 use mathlib.Core.List.{List, [], _∷_, map}
+use lib.ListN.{length, take, drop}
+use Rattle.token.specs.Token.{sliceLen}
 use Rattle.reading.specs.declared.Refusal.{Refusal}
 use Rattle.records.specs.declared.Config.{Config}
+use Rattle.sign.specs.declared.SignFile.{SignFile}
 use Rattle.layout.specs.declared.Rect.{Rect}
 use Rattle.layout.specs.declared.RenderState.{RenderState}
 use Rattle.layout.specs.declared.Entry.{Entry}
@@ -14,7 +17,9 @@ use Rattle.layout.specs.Types.{Item, itemAt}
 use Rattle.layout.specs.Read.{step, Scan, scan, Event, pass, close, stop, stopIf, newPage, read}
 use Rattle.page.specs.Scan.{itemsFrom}
 use Rattle.rows.specs.declared.Row.{Row}
-use Rattle.rows.specs.Rows.{rowsOf}
+use Rattle.rows.specs.Rows.{rowsOf, putRow}
+use Rattle.rows.specs.Measured.{rowOf}
+use Rattle.meter.specs.Gauges.{Opened, Held, Readable, meterIn}
 use Rattle.pass.specs.declared.PassEnd.{PassEnd}
 use Rattle.pass.specs.declared.PassEnd.the-variants.{Refused as RefusedBy, Cut as CutBy, Turn as TurnBy, End as EndBy}
 
@@ -78,6 +83,53 @@ Fair c from all (RefusedBy r) = Unit {0}
 Fair c from all (CutBy at n r st) = (from + n < at) × (at ≤ all) × Inside c r × Inside c (st .rect)
 Fair c from all (TurnBy at n r st) = (from + n < at) × (at ≤ all) × Inside c r
 Fair c from all (EndBy n r) = (from + n ≤ all) × Inside c r
+
+-- the slice from a place to its end, in a message for a sign of this config
+pub record Sliced (c : Config) (msg : List ℕ) (at end : ℕ) : Type 0 where
+  pub more : at < length msg
+  pub next : end ≡ at + sliceLen (drop at msg)
+  pub forward : at ≤ end
+  pub within : end ≤ length msg
+  pub small : length msg ≤ 2048
+  pub lines : c .«line_just» ≤ 4
+  pub pages : c .«page_just» ≤ 4
+
+-- what it does
+pub record Steps (c : Config) (msg : List ℕ) (st : RenderState) (blank : Bool) (at end : ℕ) (r : Step) : Type 0 where
+  pub more : at < length msg
+  pub next : end ≡ at + sliceLen (drop at msg)
+  pub does : r ≡ stepAt c st blank at (take (end - at) (drop at msg))
+
+-- a span's row can be stored; the widths are those of the font held, if it is below 256
+pub record Storable (file : List ℕ) (table : SignFile) (msg : List ℕ) (e : Entry) (held : ℕ) (widths rows : List ℕ) (n : ℕ) : Type 0 where
+  pub opened : Opened file table
+  pub reads : Readable msg e
+  pub kept : held < 256 → Held file table held widths
+  pub few : n < 2048
+  pub room : 19 * n + 19 ≤ length rows
+
+-- it was: the widths are those of its font
+pub record Stored (file : List ℕ) (table : SignFile) (msg : List ℕ) (e : Entry) (rows : List ℕ) (n : ℕ) (widths′ rows′ : List ℕ) (held′ : ℕ) : Type 0 where
+  pub row : rows′ ≡ putRow rows n (rowOf (meterIn file msg) e)
+  pub line : rowOf (meterIn file msg) e .line < 256
+  pub font : held′ ≡ e .state .font
+  pub kept : Held file table (e .state .font) widths′
+  pub room : length rows′ ≡ length rows
+
+-- a message for an accepted file, from a place on, with room for its rows
+pub record PassAsked (file : List ℕ) (table : SignFile) (msg : List ℕ) (from : ℕ) (first : RenderState) (rows : List ℕ) : Type 0 where
+  pub opened : Opened file table
+  pub small : length msg ≤ 2048
+  pub within : from ≤ length msg
+  pub enough : 19 * length msg ≤ length rows
+  pub inside : Inside (table .config) (first .rect)
+
+-- the pass from a place on was read, and ended so; rows were there before it, and rows′ are after it
+pub record PassRead (file : List ℕ) (table : SignFile) (msg : List ℕ) (from : ℕ) (first : RenderState) (rows rows′ : List ℕ) (r : PassEnd) : Type 0 where
+  pub ends : told msg r ≡ endingOf (table .config) (itemsFrom from msg) first true
+  pub spans : Rows (rowOf (meterIn file msg)) (entriesOf (table .config) (itemsFrom from msg) first true) rows′ r
+  pub fair : Fair (table .config) from (length msg) r
+  pub room : length rows′ ≡ length rows
 
 -- what is read from a pass on, by its spans and its ending
 abbrev pub eventsBy : Config → ℕ → ℕ → List Entry → Ending → List Event

@@ -1,14 +1,15 @@
 // Reading a pass: the values of a message up to [tr], [np] or the end, into rows of measured spans.
 ghost use mathlib.Core.Path.{_≡_};
 ghost use mathlib.Core.Bool.{true};
-ghost use Prim.Native.Nat.{_+_, _*_, _-_, _≤_, _<_};
-ghost use lib.ListN.{length, take, drop};
+ghost use Prim.Native.Nat.{_*_, _≤_, _<_};
+ghost use lib.ListN.{length};
 ghost use Rattle.layout.specs.Read.{itemStep};
 ghost use Rattle.page.specs.Scan.{itemsFrom};
 ghost use Rattle.render.specs.Steps.{itemAt};
 ghost use Rattle.rows.specs.Measured.{rowOf};
 ghost use Rattle.meter.specs.Gauges.{Opened, Held, meterIn};
-ghost use Rattle.pass.specs.Pass.{Inside, Fair, stepAt, entriesOf, endingOf, told, Rows};
+ghost use Rattle.pass.specs.Pass.{Inside, Fair, entriesOf, endingOf, told, Rows, Sliced, Steps, Storable, Stored, PassAsked, PassRead};
+use layout::Entry;
 use layout::Rect;
 use layout::RenderState;
 use layout::Step;
@@ -45,8 +46,8 @@ fn step_by(c: Config, st: RenderState, blank: bool, p: Place, item: Item) -> Ste
 
 // What the slice from a place to its end does.
 fn step_at(msg: &[u8], at: usize, end: usize, c: Config, st: RenderState, blank: bool) -> Step
-    requires { ⌜ (at ≤ end) × (end ≤ length (now msg)) × (length (now msg) ≤ 2048) × (c .«line_just» ≤ 4) × (c .«page_just» ≤ 4) ⌝ }
-    ensures { λ r. ⌜ r ≡ stepAt c st blank at (take (end - at) (drop at (now (msg .entry)))) ⌝ }
+    requires { ⌜ Sliced c (now msg) at end ⌝ }
+    ensures { λ r. ⌜ Steps c (now (msg .entry)) st blank at end r ⌝ }
 {
     let s = &msg[at..end];
     let item = reading::item_of(at, s);
@@ -70,8 +71,27 @@ fn keep(file: &[u8], table: SignFile, font: u8, held: u16, widths: &mut [u16; 25
     wanted
 }
 
-// The pass from a place on. Its spans' rows stand first in the slice.
-pub fn read_pass(
+// Stores a span's row, and keeps the widths of its font.
+fn store(
+    file: &[u8],
+    table: SignFile,
+    msg: &[u8],
+    e: Entry,
+    held: u16,
+    widths: &mut [u16; 256],
+    rows: &mut [u16],
+    n: usize,
+) -> u16
+    requires { ⌜ Storable (now file) table (now msg) e held (now widths) (now rows) n ⌝ }
+    ensures { λ r. ⌜ Stored (now (file .entry)) table (now (msg .entry)) e (now (rows .entry)) n (now (widths .exit)) (now (rows .exit)) r ⌝ }
+{
+    let font = keep(file, table, e.state.font, held, widths);
+    rows::put_row(rows, n, meter::row_of(file, table, widths, msg, e));
+    font
+}
+
+// `read_pass`, with the parts of its contract named.
+fn read_from(
     file: &[u8],
     table: SignFile,
     msg: &[u8],
@@ -79,11 +99,8 @@ pub fn read_pass(
     start: RenderState,
     rows: &mut [u16],
 ) -> PassEnd
-    requires { ⌜ Opened (now file) table × (length (now msg) ≤ 2048) × (from ≤ length (now msg)) × (19 * length (now msg) ≤ length (now rows)) × Inside (table .config) (start .rect) ⌝ }
-    ensures { λ r. ⌜ (told (now (msg .entry)) r ≡ endingOf (table .config) (itemsFrom from (now (msg .entry))) start true)
-        × Rows (rowOf (meterIn (now (file .entry)) (now (msg .entry)))) (entriesOf (table .config) (itemsFrom from (now (msg .entry))) start true) (now (rows .exit)) r
-        × Fair (table .config) from (length (now (msg .entry))) r
-        × (length (now (rows .exit)) ≡ length (now (rows .entry))) ⌝ }
+    requires { ⌜ PassAsked (now file) table (now msg) from start (now rows) ⌝ }
+    ensures { λ r. ⌜ PassRead (now (file .entry)) table (now (msg .entry)) from start (now (rows .entry)) (now (rows .exit)) r ⌝ }
 {
     let c = table.config;
     let mut st = start;
@@ -104,8 +121,7 @@ pub fn read_pass(
                 at = end;
             }
             Step::Emit(e, next, b) => {
-                held = keep(file, table, e.state.font, held, &mut widths);
-                rows::put_row(rows, n, meter::row_of(file, table, &widths, msg, e));
+                held = store(file, table, msg, e, held, &mut widths, rows, n);
                 st = next;
                 blank = b;
                 at = end;
@@ -123,4 +139,22 @@ pub fn read_pass(
     }
     let rect = st.rect;
     PassEnd::End(n, rect)
+}
+
+// The pass from a place on. Its spans' rows stand first in the slice.
+pub fn read_pass(
+    file: &[u8],
+    table: SignFile,
+    msg: &[u8],
+    from: usize,
+    start: RenderState,
+    rows: &mut [u16],
+) -> PassEnd
+    requires { ⌜ Opened (now file) table × (length (now msg) ≤ 2048) × (from ≤ length (now msg)) × (19 * length (now msg) ≤ length (now rows)) × Inside (table .config) (start .rect) ⌝ }
+    ensures { λ r. ⌜ (told (now (msg .entry)) r ≡ endingOf (table .config) (itemsFrom from (now (msg .entry))) start true)
+        × Rows (rowOf (meterIn (now (file .entry)) (now (msg .entry)))) (entriesOf (table .config) (itemsFrom from (now (msg .entry))) start true) (now (rows .exit)) r
+        × Fair (table .config) from (length (now (msg .entry))) r
+        × (length (now (rows .exit)) ≡ length (now (rows .entry))) ⌝ }
+{
+    read_from(file, table, msg, from, start, rows)
 }

@@ -8,7 +8,7 @@ pub answer-of-spec : {M : Type 1} → statement M
 answer-of-spec =
     tie.close (tie.spec
     (λ c. search needs)  -- enum-known-n
-    (λ c. omega (arith, countable-on _ _ _ _ (c .before .before .before .pre .1) (c .before .n .given .1)))  -- cast-t8
+    (λ c. omega (arith, countable-on _ _ _ _ (c .before .before .before .pre .countable) (c .before .n .given .1)))  -- cast-t8
     (λ c. search needs)  -- enum-known-n-2
     (λ c. search needs)  -- enum-told
     (λ c. search needs)  -- cast-t9

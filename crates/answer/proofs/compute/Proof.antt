@@ -16,5 +16,5 @@ compute-spec =
     (λ c. omega (arith, start-small _ _ (c .before .before .before .read-sign .ensures) _ (c .before .outcome .given .1)))  -- cast-refuse
     (λ c κs. search needs)  -- refuse-requires
     (λ c. search needs)  -- same-length
-    (λ c. (sign-good _ _ _ _ _ (c .before .before .before .before .before .before .read-sign .ensures) (λ i. omega (arith, c .before .before .before .before .before .before .before .before .before .shared-slice-known .given i)) (c .before .before .before .before .enum-told .given .1) _ (c .before .before .checked .ensures .0), c .before .before .checked .ensures .1, c .before .before .checked .ensures .2))  -- returns
+    (λ c. (sign-good _ _ _ _ _ (c .before .before .before .before .before .before .read-sign .ensures) (λ i. omega (arith, c .before .before .before .before .before .before .before .before .before .shared-slice-known .given i)) (c .before .before .before .before .enum-told .given .1) _ (c .before .before .checked .ensures .ends), c .before .before .checked .ensures .few, c .before .before .checked .ensures .long))  -- returns
     (λ c. (sign-bad _ _ _ _ _ (c .before .before .before .before .read-sign .ensures) _ (c .before .before .outcome .given .1) (c .before .before .before .before .before .before .before .before .args .out .now) _ (c .refuse .ensures), none-counted _ _ _ (c .refuse .ensures), refl)))  -- returns-2

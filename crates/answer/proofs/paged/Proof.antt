@@ -10,6 +10,6 @@ paged-spec =
     (λ c. search needs)  -- same-length
     (λ c. search needs)  -- returns
     (λ c. search needs)  -- slice-aggregate-numbered-2
-    (λ c κs. let p = c .before .before .before .before .before .before .pre in (p .0, p .1, search needs, p .2))  -- numbered-requires-2
+    (λ c κs. let s : tie.Start = search in record { opened = s .pre .0; small = s .pre .1; rowed = search needs; room = s .pre .2 })  -- numbered-requires-2
     (λ c. search needs)  -- same-length-2
     (λ c. search needs))  -- returns-2

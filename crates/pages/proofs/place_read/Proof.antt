@@ -10,6 +10,6 @@ place-read-spec =
     (λ c. search needs)  -- enum-known-r
     (λ c. search needs)  -- enum-told
     (λ c. search needs)  -- same-length
-    (λ c. let x = read-refused _ _ (c .before .before .before .before .before .place-pass .ensures .0) _ _ _ (c .before .before .before .before .before .place-pass .ensures .1) _ (c .before .r .given .1) in (x .0, x .1, c .before .before .before .before .before .place-pass .ensures .2))  -- returns
+    (λ c. search read-refused)  -- returns
     (λ c. search needs)  -- same-length-2
-    (λ c. let x = read-placed _ _ (c .before .before .before .before .place-pass .ensures .0) _ _ _ (c .before .before .before .before .place-pass .ensures .1) (c .enum-told .given .1) in (x .0, x .1, c .before .before .before .before .place-pass .ensures .2)))  -- returns-2
+    (λ c. search read-placed))  -- returns-2
