@@ -1,14 +1,10 @@
 // Reading a pass: the values of a message up to [tr], [np] or the end, into rows of measured spans.
 ghost use mathlib.Core.Path.{_≡_};
-ghost use mathlib.Core.Bool.{true};
-ghost use Prim.Native.Nat.{_*_, _≤_, _<_};
-ghost use lib.ListN.{length};
+ghost use Prim.Native.Nat.{_≤_, _<_};
 ghost use Rattle.layout.specs.Read.{itemStep};
-ghost use Rattle.page.specs.Scan.{itemsFrom};
 ghost use Rattle.render.specs.Steps.{itemAt};
-ghost use Rattle.rows.specs.Measured.{rowOf};
-ghost use Rattle.meter.specs.Gauges.{Opened, Held, meterIn};
-ghost use Rattle.pass.specs.Pass.{Inside, Fair, entriesOf, endingOf, told, Rows, Sliced, Steps, Storable, Stored, PassAsked, PassRead};
+ghost use Rattle.meter.specs.Gauges.{Held};
+ghost use Rattle.pass.specs.Pass.{doneBy, Sliced, Steps, Storable, Stored, PassAsked, PassRead};
 use layout::Entry;
 use layout::Rect;
 use layout::RenderState;
@@ -19,13 +15,26 @@ use records::Config;
 use sign::SignFile;
 use value::Place;
 
-// How a pass ends: a refusal; [tr] or [np], with the place past it, the count of its spans, its rectangle, and the state after [tr] or before
-// [np]; the message's end.
+// What ends a pass: [tr], [np] or the message's end.
+pub enum How {
+    Cut,
+    Turn,
+    End,
+}
+
+// A pass that is done: what ended it, the place past that, the count of its spans, its rectangle, and the state after [tr], before [np] or at
+// the message's end.
+pub struct PassDone {
+    pub how: How,
+    pub at: usize,
+    pub count: usize,
+    pub rect: Rect,
+    pub state: RenderState,
+}
+
 pub enum PassEnd {
     Refused(Refusal),
-    Cut(usize, usize, Rect, RenderState),
-    Turn(usize, usize, Rect, RenderState),
-    End(usize, Rect),
+    Ended(PassDone),
 }
 
 // What an item at a place does.
@@ -90,8 +99,21 @@ fn store(
     font
 }
 
-// `read_pass`, with the parts of its contract named.
-fn read_from(
+// The pass is done.
+fn done(how: How, at: usize, count: usize, rect: Rect, state: RenderState) -> PassEnd
+    ensures { λ r. ⌜ r ≡ PassEnd.Ended (doneBy how at count rect state) ⌝ }
+{
+    PassEnd::Ended(PassDone {
+        how,
+        at,
+        count,
+        rect,
+        state,
+    })
+}
+
+// The pass from a place on. Its spans' rows stand first in the slice.
+pub fn read_pass(
     file: &[u8],
     table: SignFile,
     msg: &[u8],
@@ -128,33 +150,12 @@ fn read_from(
                 n += 1;
             }
             Step::Cut(next) => {
-                let rect = st.rect;
-                return PassEnd::Cut(end, n, rect, next);
+                return done(How::Cut, end, n, st.rect, next);
             }
             Step::Turn => {
-                let rect = st.rect;
-                return PassEnd::Turn(end, n, rect, st);
+                return done(How::Turn, end, n, st.rect, st);
             }
         }
     }
-    let rect = st.rect;
-    PassEnd::End(n, rect)
-}
-
-// The pass from a place on. Its spans' rows stand first in the slice.
-pub fn read_pass(
-    file: &[u8],
-    table: SignFile,
-    msg: &[u8],
-    from: usize,
-    start: RenderState,
-    rows: &mut [u16],
-) -> PassEnd
-    requires { ⌜ Opened (now file) table × (length (now msg) ≤ 2048) × (from ≤ length (now msg)) × (19 * length (now msg) ≤ length (now rows)) × Inside (table .config) (start .rect) ⌝ }
-    ensures { λ r. ⌜ (told (now (msg .entry)) r ≡ endingOf (table .config) (itemsFrom from (now (msg .entry))) start true)
-        × Rows (rowOf (meterIn (now (file .entry)) (now (msg .entry)))) (entriesOf (table .config) (itemsFrom from (now (msg .entry))) start true) (now (rows .exit)) r
-        × Fair (table .config) from (length (now (msg .entry))) r
-        × (length (now (rows .exit)) ≡ length (now (rows .entry))) ⌝ }
-{
-    read_from(file, table, msg, from, start, rows)
+    done(How::End, at, n, st.rect, st)
 }

@@ -3,11 +3,12 @@ use lib.ListN.{length}
 use borrow.Author.Needs.{needs}
 use Rattle.token.proofs.Laws.{next-less}
 use Rattle.pass.proofs.Laws.{Stands, pass-start, pass-asks, pass-end, pass-refuse, pass-cut, pass-turn, pass-go, pass-stores, pass-emit}
-use Rattle.pass.proofs.read_from.Statement.{statement}
-use Rattle.pass.proofs.read_from.Tie as tie
+use Rattle.pass.proofs.read_pass.Statement.{statement}
+use Rattle.pass.proofs.read_pass.Tie as tie
 
 abbrev Inv-loop : tie.InvT-loop
-Inv-loop file table msg from rows₀ c st₀ blank₀ at₀ n₀ widths₀ held₀ rows st blank at n widths held = Stands file table msg from st₀ rows₀ rows st blank at n widths held
+Inv-loop file table msg from rows₀ c st₀ blank₀ at₀ n₀ widths₀ held₀ rows st blank at n widths held =
+    Stands file table msg from st₀ rows₀ rows st blank at n widths held
 
 abbrev μ-loop : tie.MeasureT-loop
 μ-loop file table msg from rows₀ c st₀ blank₀ at₀ n₀ widths₀ held₀ rows st blank at n widths held = length msg - at
@@ -24,8 +25,8 @@ Looped = tie.At-loop Inv-loop μ-loop
 abbrev Emitted : Type 0
 Emitted = tie.After-e Inv-loop μ-loop
 
-pub read-from-spec : {M : Type 1} → statement M
-read-from-spec =
+pub read-pass-spec : {M : Type 1} → statement M
+read-pass-spec =
     tie.close (tie.spec
     Inv-loop
     μ-loop
@@ -39,15 +40,27 @@ read-from-spec =
     (λ c. let a : Stepped = search in search next-less)  -- loop-less
     (λ c. let a : Stepped = search in search pass-go)  -- loop-again
     (λ c. search needs)  -- enum-known-e
-    (λ c κs. let e : Emitted = search in let a : Stepped = search in let l : Looped = search in pass-stores (l .loop .inv) (a .step-at .ensures) (e .e .given .1))  -- store-requires
+    (λ c κs.
+    let e : Emitted = search in
+    let a : Stepped = search in
+    let l : Looped = search in
+    pass-stores (l .loop .inv) (a .step-at .ensures) (e .e .given .1))  -- store-requires
     (λ c. let e : Emitted = search in search needs)  -- add-n
     (λ c. let a : Stepped = search in search next-less)  -- loop-less-2
-    (λ c. let p : tie.After-store Inv-loop μ-loop = search in let e : Emitted = search in let a : Stepped = search in let l : Looped = search in pass-emit (l .loop .inv) (a .step-at .ensures) (e .e .given .1) (p .store .ensures))  -- loop-again-2
+    (λ c.
+    let p : tie.After-store Inv-loop μ-loop = search in
+    let e : Emitted = search in
+    let a : Stepped = search in
+    let l : Looped = search in
+    pass-emit (l .loop .inv) (a .step-at .ensures) (e .e .given .1) (p .store .ensures))  -- loop-again-2
     (λ c. search needs)  -- enum-known-next-2
+    (λ c κs. search needs)  -- done-requires
     (λ c. search needs)  -- same-length-2
     (λ c. let a : Stepped = search in search pass-cut)  -- returns-2
     (λ c. search needs)  -- enum-told
+    (λ c κs. search needs)  -- done-requires-2
     (λ c. search needs)  -- same-length-3
     (λ c. let a : Stepped = search in search pass-turn)  -- returns-3
+    (λ c κs. search needs)  -- done-requires-3
     (λ c. search needs)  -- same-length-4
     (λ c. search pass-end))  -- returns-4
