@@ -100,7 +100,7 @@ fn store(
 }
 
 // The pass is done.
-fn done(how: How, at: usize, count: usize, rect: Rect, state: RenderState) -> PassEnd
+pub fn done(how: How, at: usize, count: usize, rect: Rect, state: RenderState) -> PassEnd
     ensures { λ r. ⌜ r ≡ PassEnd.Ended (doneBy how at count rect state) ⌝ }
 {
     PassEnd::Ended(PassDone {

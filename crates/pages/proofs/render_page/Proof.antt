@@ -1,6 +1,6 @@
 use Prim.Native.Nat.{_-_}
-use borrow.Author.Needs.{needs}
 use Rattle.pages.proofs.Laws.{Stands, page-start, page-asks, page-rowed, page-room, page-refuse, page-cut, page-turn, page-end, page-last}
+use borrow.Author.Needs.{needs}
 use Rattle.pages.proofs.render_page.Statement.{statement}
 use Rattle.pages.proofs.render_page.Tie as tie
 
@@ -25,18 +25,20 @@ render-page-spec =
     (λ c. search needs)  -- same-length
     (λ c. search needs)  -- same-length-2
     (λ c. let p : Passed = search in search page-refuse)  -- returns
-    (λ c. search needs)  -- enum-known-end
+    (λ c. search needs)  -- enum-known-d
+    (λ c. search needs)  -- enum-told
     (λ c. search needs)  -- add-k
     (λ c. search needs)  -- loop-less
     (λ c. let p : Passed = search in search page-cut)  -- loop-again
-    (λ c. search needs)  -- enum-known-end-2
-    (λ c κs. search needs)  -- new-page-requires
+    (λ c. search needs)  -- enum-told-2
+    (λ c κs. search needs)  -- done-requires
     (λ c. let p : Passed = search in search page-rowed)  -- same-length-3
     (λ c. let p : Passed = search in search page-room)  -- same-length-4
     (λ c. let p : Passed = search in search page-turn)  -- returns-2
-    (λ c. search needs)  -- enum-known-m
-    (λ c. search needs)  -- same-length-5
-    (λ c. search needs)  -- same-length-6
+    (λ c. search needs)  -- enum-told-3
+    (λ c κs. search needs)  -- done-requires-2
+    (λ c. let p : Passed = search in search page-rowed)  -- same-length-5
+    (λ c. let p : Passed = search in search page-room)  -- same-length-6
     (λ c. let p : Passed = search in search page-end)  -- returns-3
     (λ c κs. search page-asks)  -- render-pass-requires-2
     (λ c κs. search needs)  -- last-pass-requires

@@ -1,5 +1,5 @@
+use Rattle.pages.proofs.Placing.{render-refused, render-asks, render-fits, render-stop, render-done}
 use borrow.Author.Needs.{needs}
-use Rattle.pages.proofs.Placing.{cut-asks, turn-asks, end-asks, cut-fits, turn-fits, end-fits, refused-done, cut-done, turn-done, end-done}
 use Rattle.pages.proofs.render_pass.Statement.{statement}
 use Rattle.pages.proofs.render_pass.Tie as tie
 
@@ -8,23 +8,17 @@ render-pass-spec =
     tie.close (tie.spec
     (λ c κs. search needs)  -- read-pass-requires
     (λ c. search needs)  -- enum-known-r
-    (λ c. search needs)  -- enum-known-end
-    (λ c. let a : tie.After-read-pass = search in search cut-fits)  -- add-t29
-    (λ c κs. let a : tie.After-read-pass = search in search cut-asks)  -- place-read-requires
-    (λ c. search needs)  -- enum-known-end-2
-    (λ c. let a : tie.After-read-pass = search in search turn-fits)  -- add-t35
-    (λ c κs. let a : tie.After-read-pass = search in search turn-asks)  -- place-read-requires-2
-    (λ c. search needs)  -- enum-known-n
-    (λ c. let a : tie.After-read-pass = search in search end-fits)  -- add-t41
-    (λ c κs. let a : tie.After-read-pass = search in search end-asks)  -- place-read-requires-3
+    (λ c. search needs)  -- enum-known-d
+    (λ c κs. let a : tie.After-read-pass = search in search render-asks)  -- place-pass-requires
+    (λ c. search needs)  -- enum-known-r-2
+    (λ c. search needs)  -- enum-told
+    (λ c. let e : tie.After-d = search in let a : tie.After-read-pass = search in let s : tie.Start = search in search render-fits)  -- add-done
+    (λ c κs. search needs)  -- done-requires
     (λ c. search needs)  -- same-length
-    (λ c. let a : tie.After-read-pass = search in search refused-done)  -- returns
+    (λ c. let a : tie.After-read-pass = search in search render-refused)  -- returns
     (λ c. search needs)  -- same-length-2
     (λ c. search needs)  -- same-length-3
-    (λ c. let a : tie.After-read-pass = search in search cut-done)  -- returns-2
+    (λ c. let p : tie.After-place-pass = search in let a : tie.After-read-pass = search in search render-stop)  -- returns-2
     (λ c. search needs)  -- same-length-4
     (λ c. search needs)  -- same-length-5
-    (λ c. let a : tie.After-read-pass = search in search turn-done)  -- returns-3
-    (λ c. search needs)  -- same-length-6
-    (λ c. search needs)  -- same-length-7
-    (λ c. let a : tie.After-read-pass = search in search end-done))  -- returns-4
+    (λ c. let p : tie.After-place-pass = search in let a : tie.After-read-pass = search in search render-done))  -- returns-3
