@@ -1,5 +1,5 @@
 -- The ways on and out of a pass.
-use Prim.Native.Nat.{ℕ, _*_, _+_, _-_, _%_, _≤_, _<_}
+use Prim.Native.Nat.{ℕ, _+_, _-_, _%_, _≤_, _<_}
 use mathlib.Core.Path.{_≡_, refl, sym, _∙_, ap, subst}
 use mathlib.Core.Bool.{Bool, true, _&&_}
 use mathlib.Core.List.{List, [], _∷_, _++_, map, append-assoc, append-nil}
@@ -28,7 +28,7 @@ use Rattle.layout.specs.declared.Step.the-variants.{Refuse, Go, Emit, Cut, Turn
 use Rattle.layout.specs.Types.{Item, itemAt}
 use Rattle.layout.specs.Read.{refusalAt, unit, rectFits, fits, valueStep, itemStep, step}
 use Rattle.layout.proofs.PassLaws.{and-true}
-use Rattle.layout.proofs.Cover.{Fair as StepKeeps, step-is-fair as step-keeps}
+use Rattle.layout.proofs.Cover.{Fair as StepWithin, step-is-fair as step-within}
 use Rattle.layout.proofs.Items.{item-within}
 use Rattle.page.specs.Scan.{itemsFrom}
 use Rattle.render.specs.Steps.{itemAt as placed}
@@ -103,9 +103,6 @@ module _ {file : List ℕ} {table : SignFile} {msg : List ℕ} {from : ℕ} {fir
   abbrev Ends : PassEnd → Type 0
   Ends = PassRead file table msg from first rows₀ rows
 
-  pub pass-kept : held < 256 → Held file table held widths
-  pass-kept = z .kept
-
   -- the pass is done
   finish : {v : PassEnd} {d : PassDone} → v ≡ EndedBy d → told msg (EndedBy d) ≡ End → SpansRead file table msg from first rows d → Ends v
   finish q e s = subst Ends (sym q) (record { ends = e; done = s; room = z .room })
@@ -170,9 +167,9 @@ module _ {file : List ℕ} {table : SignFile} {msg : List ℕ} {from : ℕ} {fir
     here-entries : entriesOf c (itemsFrom at msg) st blank ≡ entries t
     here-entries = ap (λ (l : List Item). entriesOf c l st blank) from-next ∙ ap entries stepped
 
-    keeps : StepKeeps msg c st (itemAt slice) t
+    lies : StepWithin msg c st (itemAt slice) t
     unfolding slice
-    keeps = subst (StepKeeps msg c st (itemAt slice)) stepped (step-keeps msg c st blank (itemAt slice) (item-within at bytes (omega (arith, size, more))))
+    lies = subst (StepWithin msg c st (itemAt slice)) stepped (step-within msg c st blank (itemAt slice) (item-within at bytes (omega (arith, size, more))))
 
     -- the step is u
     module _ {u : Step} (q : t ≡ u) where
@@ -182,8 +179,8 @@ module _ {file : List ℕ} {table : SignFile} {msg : List ℕ} {from : ℕ} {fir
       spans-so : rowsOf rows n ++ map f (entries u) ≡ All
       spans-so = ap (λ (l : List Entry). rowsOf rows n ++ map f l) (sym (here-entries ∙ ap entries q)) ∙ z .entries
 
-      keeps-so : StepKeeps msg c st (itemAt slice) u
-      keeps-so = subst (StepKeeps msg c st (itemAt slice)) q keeps
+      lies-so : StepWithin msg c st (itemAt slice) u
+      lies-so = subst (StepWithin msg c st (itemAt slice)) q lies
 
     pub pass-refuse : {x : Refusal} → t ≡ Refuse x → Ends (RefusedBy x)
     pass-refuse q = record { ends = ends-so q; done = tt; room = z .room }
@@ -201,7 +198,7 @@ module _ {file : List ℕ} {table : SignFile} {msg : List ℕ} {from : ℕ} {fir
         }
 
     pub pass-cut : {st′ : RenderState} {v : PassEnd} → t ≡ Cut st′ → v ≡ EndedBy (doneBy ByCut r n (st .rect) st′) → Ends v
-    pass-cut {st′} q e = finish e (ends-so q) (closed (spans-so q) (omega arith) (fits-inside c (st′ .rect) ((keeps-so q) .3)))
+    pass-cut {st′} q e = finish e (ends-so q) (closed (spans-so q) (omega arith) (fits-inside c (st′ .rect) ((lies-so q) .3)))
 
     pub pass-turn : {v : PassEnd} → t ≡ Turn → v ≡ EndedBy (doneBy ByTurn r n (st .rect) st) → Ends v
     pass-turn q e = finish e (ends-so q) (closed (spans-so q) (omega arith) (z .inside))
@@ -213,7 +210,7 @@ module _ {file : List ℕ} {table : SignFile} {msg : List ℕ} {from : ℕ} {fir
           within = past;
           asked = z .asked;
           room = z .room;
-          inside = same-inside c (st′ .rect) (st .rect) ((keeps-so q) .0) (z .inside);
+          inside = same-inside c (st′ .rect) (st .rect) ((lies-so q) .0) (z .inside);
           ending = ends-so q;
           entries = spans-so q;
           kept = z .kept;
@@ -221,8 +218,8 @@ module _ {file : List ℕ} {table : SignFile} {msg : List ℕ} {from : ℕ} {fir
 
     -- a span: its row is stored
     module _ {x : Entry} {st′ : RenderState} {b : Bool} (q : t ≡ Emit x st′ b) where
-      spoke : StepKeeps msg c st (itemAt slice) (Emit x st′ b)
-      spoke = keeps-so q
+      spoke : StepWithin msg c st (itemAt slice) (Emit x st′ b)
+      spoke = lies-so q
 
       starts : x .start ≡ at
       unfolding slice

@@ -16,7 +16,6 @@ use Rattle.layout.specs.declared.Step.the-variants.{Refuse, Go, Emit, Cut, Turn
 use Rattle.layout.specs.Types.{Item, itemAt}
 use Rattle.layout.specs.Read.{step, Scan, scan, Event, pass, close, stop, stopIf, newPage, read}
 use Rattle.page.specs.Scan.{itemsFrom}
-use Rattle.rows.specs.declared.Row.{Row}
 use Rattle.rows.specs.Rows.{RowRoom, rowsOf, putRow}
 use Rattle.rows.specs.Measured.{rowOf}
 use Rattle.meter.specs.Gauges.{Opened, Held, Readable, meterIn}

@@ -13,6 +13,9 @@ checked-spec =
     (λ c. search ill-formed)  -- returns-2
     (λ c κs. search needs)  -- refuse-requires-3
     (λ c. search no-room)  -- returns-3
-    (λ c κs. let i : tie.Else1 = search in let s : tie.Start = search in (s .pre .0, i .if1 .left, s .pre .1 (i .if1 .left)))  -- paged-requires
+    (λ c κs.
+    let i : tie.Else1 = search in
+    let s : tie.Start = search in
+    record { opened = s .pre .opened; small = i .if1 .left; room = s .pre .room (i .if1 .left) })  -- paged-requires
     (λ c. search needs)  -- same-length
     (λ c. search all-well))  -- returns-4

@@ -1,6 +1,6 @@
 use Prim.Native.Nat.{_-_}
+use Rattle.answer.proofs.Laws.{Stands, numbered-start, numbered-asks, numbered-rowed, numbered-room, numbered-next, numbered-end, numbered-refused, next-answerable, numbered-asked}
 use borrow.Author.Needs.{needs}
-use Rattle.answer.proofs.Laws.{Stands, numbered-start, numbered-rowed, numbered-room, numbered-on, numbered-off, numbered-end, numbered-refused, next-answerable, numbered-asked}
 use Rattle.answer.proofs.numbered.Statement.{statement}
 use Rattle.answer.proofs.numbered.Tie as tie
 
@@ -31,17 +31,13 @@ numbered-spec =
     μ-loop
     (λ c κs. search needs)  -- first-requires
     (λ c. search numbered-start)  -- loop-holds
-    (λ c κs. let l : Looped = search in search needs)  -- next-requires
+    (λ c κs. search numbered-asks)  -- next-requires
     (λ c. search needs)  -- enum-known-q
     (λ c. let l : Looped = search in search needs)  -- add-i
     (λ c. let l : Turning = search in search needs)  -- loop-less
-    (λ c. let a : Read = search in search numbered-on)  -- loop-again
-    (λ c. search needs)  -- enum-known-q-2
-    (λ c. let l : Looped = search in search needs)  -- add-i-2
-    (λ c. let l : Turning = search in search needs)  -- loop-less-2
-    (λ c. let a : Read = search in search numbered-off)  -- loop-again-2
+    (λ c. let a : Read = search in search numbered-next)  -- loop-again
     (λ c. search needs)  -- enum-told
-    (λ c. let l : Looped = search in search needs)  -- cast-t18
+    (λ c. let l : Looped = search in search needs)  -- cast-t17
     (λ c. search needs)  -- same-length
     (λ c. search needs)  -- same-length-2
     (λ c. let a : Read = search in search numbered-end)  -- returns
@@ -49,7 +45,7 @@ numbered-spec =
     (λ c. search needs)  -- same-length-3
     (λ c. search needs)  -- same-length-4
     (λ c. let a : Read = search in search numbered-refused)  -- returns-2
-    (λ c κs. let l : Looped = search in search needs)  -- next-requires-2
+    (λ c κs. search numbered-asks)  -- next-requires-2
     (λ c κs. let a : Last = search in search next-answerable)  -- answer-of-requires
     (λ c. let a : Last = search in search numbered-rowed)  -- same-length-5
     (λ c. let a : Last = search in search numbered-room)  -- same-length-6
