@@ -6,50 +6,94 @@ use mathlib.Core.List.{List, [], _∷_}
 use native.Mathlib.Omega.{arith}
 use native.Mathlib.Numerals.{add-one}
 use native.Mathlib.Nat.{sub-zero}
-use lib.ListN.{length}
+use lib.ListN.{length, getD}
+use mir.Val as Val
+use mir.Syntax.{w8, w16}
 use borrow.Author.Tests.{lt-ltb, le-ltb}
+use Rattle.base.specs.Pick.{pick}
 use Rattle.utf8.specs.Utf8.{wellFormed}
 use Rattle.reading.specs.declared.Refusal.{Refusal}
 use Rattle.records.specs.declared.Config.{Config}
 use Rattle.sign.specs.Sign.{Font, Sign, Accepted, signFile}
-use Rattle.sign.specs.Accepted.{Bytes}
 use Rattle.sign.specs.Given.{given as tableOf}
 use Rattle.sign.specs.declared.SignFile.{SignFile}
 use Rattle.sign.specs.declared.Outcome.the-variants.{Accepted as AcceptedOutcome, RefusedAt as RefusedOutcome}
 use Rattle.sign.proofs.Answer.{Accepts, accepts, refuses}
+use Rattle.layout.specs.declared.Span.{Span}
 use Rattle.layout.specs.declared.Answer.{Answer}
 use Rattle.layout.specs.declared.Answer.the-variants.{On, Off, End, Refused}
 use Rattle.layout.specs.Types.{items, Board, refusal}
 use Rattle.layout.specs.Fonts.{meterOf, boardOf}
-use Rattle.layout.specs.Listing.{Page, on, off, refused as refusedPage, pages, Result, past, numbered, checked, resultOn, result}
+use Rattle.layout.specs.Listing.{Page, on, off, refused as refusedPage, pages, answerOf, recordsOf, Result, said, past, numbered, checked, resultOn, result}
 use Rattle.layout.proofs.Room.{result-room}
 use Rattle.rows.specs.Rows.{spansOf}
 use Rattle.rows.proofs.Laws.{spans-length}
 use Rattle.meter.specs.Gauges.{fontsIn, meterIn}
 use Rattle.pages.specs.declared.Pages.{Pages}
+use Rattle.pages.specs.declared.PageShown.{PageShown}
 use Rattle.pages.specs.declared.NextPage.{NextPage}
-use Rattle.pages.specs.declared.NextPage.the-variants.{On as NextOn, Off as NextOff, End as NextNone, Refused as NextRefused}
-use Rattle.pages.specs.Pages.{boardIn, firstOf, todo, nextTold, Sound, weight, Keeps}
-use Rattle.pages.proofs.Answers.{pages-todo, first-sound}
-use Rattle.answer.specs.Answer.{writtenBy, told, answerBy, Countable, countOf}
+use Rattle.pages.specs.declared.NextPage.the-variants.{Page as NextShown, End as NextNone, Refused as NextRefused}
+use Rattle.pages.specs.Pages.{boardIn, Ready, firstOf, todo, shownPage, nextTold, InMessage, weight, IfShown, Advances, NextAsked, NextRead}
+use Rattle.pages.proofs.Answers.{pages-todo, first-in}
+use Rattle.answer.specs.Answer.{writtenBy, told, answerBy, Answerable, countOf, RecordRoom, Numbered, Checked, Computed}
+
+-- ---- an answer of a page
+
+-- as its page says it, on or off
+shown-said : (b : Bool) (d n : ℕ) (l : List ℕ)
+    → told (pick b (On d n) (Off d)) l
+    ≡ record { answer = answerOf (pick b (on d (spansOf l n)) (off d)); written = recordsOf (pick b (on d (spansOf l n)) (off d)) }
+shown-said true d n l = rw (spans-length l n)
+shown-said false d n l = refl
+
+shown-past : (b : Bool) (d : ℕ) (rs : List Span) (a : Result) → past (pick b (on d rs) (off d)) a ≡ a
+shown-past true d rs a = refl
+shown-past false d rs a = refl
+
+shown-few : (b : Bool) (d n all : ℕ) → n ≤ all → countOf (pick b (On d n) (Off d)) ≤ all
+shown-few true d n all h = h
+shown-few false d n all h = omega arith
+
+module _ {n : NextPage} where
+  pub count-fits : {count : ℕ} {p : Pages} {x : PageShown} → Answerable n count → n ≡ NextShown p x → Val.Fits w16 (x .count)
+  count-fits h q = omega (arith, subst (IfShown (λ p x. x .count < 65536)) q (h .countable))
+
+  pub answer-on : (count : ℕ) {p : Pages} {x : PageShown} → n ≡ NextShown p x → x .on ≡ true → On (x .duration) (x .count) ≡ answerBy n count
+  answer-on count q e = rw (q, e)
+
+  pub answer-off : (count : ℕ) {p : Pages} {x : PageShown} → n ≡ NextShown p x → x .on ≡ false → Off (x .duration) ≡ answerBy n count
+  answer-off count q e = rw (q, e)
+
+  pub answer-end : (count : ℕ) → n ≡ NextNone → End count ≡ answerBy n count
+  answer-end count q = rw q
+
+  pub answer-refused : (count : ℕ) {x : Refusal} → n ≡ NextRefused x → Refused x ≡ answerBy n count
+  answer-refused count q = rw q
 
 -- ---- the loop
 
-pub record Stands (s : Board) (msg : List ℕ) (number R O : ℕ) (rows out : List ℕ) (p : Pages) (i : ℕ) : Type 0 where
-  pub sound : Sound (s .config) (length msg) p
+-- where the loop stands: rows₀ and out₀ were there before it
+pub record Stands (file : List ℕ) (table : SignFile) (msg : List ℕ) (number : ℕ) (rows₀ out₀ rows out : List ℕ) (p : Pages) (i : ℕ) : Type 0 where
+  pub ready : Ready file table msg rows₀ out₀
+  pub stands : InMessage (table .config) (length msg) p
   pub few : i + weight (p .«page_state») ≤ 2 * p .at + 2
-  pub before : i ≤ number
-  pub rowed : length rows ≡ R
-  pub room : length out ≡ O
-  pub same : numbered i (todo s msg p) (number - i) ≡ numbered 0 (pages s (items msg)) number
+  pub reached : i ≤ number
+  pub rowed : length rows ≡ length rows₀
+  pub room : length out ≡ length out₀
+  pub same :
+      numbered i (todo (boardIn file msg (table .config)) msg p) (number - i)
+      ≡ numbered 0 (pages (boardIn file msg (table .config)) (items msg)) number
 
-pub numbered-start : (s : Board) (msg : List ℕ) (number : ℕ) (rows out : List ℕ) (p : Pages) → p ≡ firstOf (s .config) → Stands s msg number (length rows) (length out) rows out p 0
-numbered-start s msg number rows out p e =
-    subst (λ (q : Pages). Stands s msg number (length rows) (length out) rows out q 0) (sym e)
+pub numbered-start : {file : List ℕ} {table : SignFile} {msg : List ℕ} {number : ℕ} {rows out : List ℕ} {p : Pages}
+    → Ready file table msg rows out → p ≡ firstOf (table .config) → Stands file table msg number rows out rows out p 0
+numbered-start {file} {table} {msg} {number} {rows} {out} {p} r e =
+    let s : Board = boardIn file msg (table .config) in
+    subst (λ (q : Pages). Stands file table msg number rows out rows out q 0) (sym e)
     (record {
-      sound = first-sound (s .config) (length msg);
+      ready = r;
+      stands = first-in (s .config) (length msg);
       few = omega arith;
-      before = omega arith;
+      reached = omega arith;
       rowed = refl;
       room = refl;
       same = rw sub-zero (ap (λ (x : List Page). numbered 0 x number) (sym (pages-todo s msg)));
@@ -59,85 +103,89 @@ numbered-start s msg number rows out p e =
 less : (i m k : ℕ) (q : Page) (l : List Page) → m ≡ suc k → numbered i (q ∷ l) m ≡ past q (numbered (suc i) l k)
 less i m k q l e = rw e
 
-module _ (s : Board) (msg : List ℕ) (number R O : ℕ) (rows out : List ℕ) (p : Pages) (i : ℕ) (z : Stands s msg number R O rows out p i) (small : length msg ≤ 2048) where
-  pub count-small : i < 65536
-  count-small = omega (arith, z .few, z .sound .within)
+module _ {file : List ℕ} {table : SignFile} {msg : List ℕ} {number : ℕ} {rows₀ out₀ rows out : List ℕ} {p : Pages} {i : ℕ}
+    (z : Stands file table msg number rows₀ out₀ rows out p i) where
+  abbrev s : Board
+  s = boardIn file msg (table .config)
+
+  abbrev whole : Result
+  whole = numbered 0 (pages s (items msg)) number
+
+  count-small : i < 65536
+  count-small = omega (arith, z .few, z .stands .within, z .ready .small)
+
+  pub numbered-asks : NextAsked file table msg p rows out
+  numbered-asks =
+      let r : Ready file table msg rows₀ out₀ = z .ready in
+      record { ready = record { opened = r .opened; small = r .small; rowed = omega arith; room = omega arith }; stands = z .stands }
 
   -- t is the next answer
-  module _ (rows′ out′ : List ℕ) (t : NextPage) (e : todo s msg p ≡ nextTold s msg out′ t) (k : Keeps (s .config) (length msg) (p .at) (weight (p .«page_state»)) t) (l : length rows′ ≡ length rows) (m : length out′ ≡ length out) where
-    here : (u : NextPage) → t ≡ u → numbered i (nextTold s msg out′ u) (number - i) ≡ numbered 0 (pages s (items msg)) number
-    here u q = ap (λ (x : List Page). numbered i x (number - i)) (sym (e ∙ ap (nextTold s msg out′) q)) ∙ z .same
+  module _ {rows′ out′ : List ℕ} {t : NextPage} (read : NextRead file table msg p rows out rows′ out′ (p .«page_state») t) where
+    abbrev Tells : Answer → Type 0
+    Tells = Numbered file table msg number out₀ out′
 
-    keeps : (u : NextPage) → t ≡ u → Keeps (s .config) (length msg) (p .at) (weight (p .«page_state»)) u
-    keeps u q = subst (Keeps (s .config) (length msg) (p .at) (weight (p .«page_state»))) q k
+    pub numbered-rowed : length rows′ ≡ length rows₀
+    numbered-rowed = read .rowed ∙ z .rowed
 
-    pub numbered-on : (q : Pages) (d n : ℕ) → t ≡ NextOn q d n → i < number → Stands s msg number R O rows′ out′ q (i + 1)
-    numbered-on q d n c h =
-        let g : Keeps (s .config) (length msg) (p .at) (weight (p .«page_state»)) (NextOn q d n) = keeps (NextOn q d n) c in
+    pub numbered-room : length out′ ≡ length out₀
+    numbered-room = read .room ∙ z .room
+
+    here : {u : NextPage} → t ≡ u → numbered i (nextTold s msg out′ u) (number - i) ≡ whole
+    here q = ap (λ (x : List Page). numbered i x (number - i)) (sym (read .ends ∙ ap (nextTold s msg out′) q)) ∙ z .same
+
+    -- what is said of an answer that is shown
+    abbrev Goes : NextPage → Type 0
+    Goes = IfShown (Advances (table .config) (length msg) (p .at) (weight (p .«page_state»)))
+
+    goes : {u : NextPage} → t ≡ u → Goes u
+    goes q = subst Goes q (read .next)
+
+    pub numbered-next : {q : Pages} {x : PageShown} → t ≡ NextShown q x → i < number → Stands file table msg number rows₀ out₀ rows′ out′ q (i + 1)
+    numbered-next {q} {x} c h =
+        let g : Advances (table .config) (length msg) (p .at) (weight (p .«page_state»)) q x = goes c in
         record {
-          sound = g .0;
-          few = omega (arith, g .1, z .few);
-          before = omega arith;
-          rowed = l ∙ z .rowed;
-          room = m ∙ z .room;
-          same = rw (add-one i) (sym (less i (number - i) (number - suc i) (on d (spansOf out′ n)) (todo s msg q) (omega arith)) ∙ here (NextOn q d n) c);
+          ready = z .ready;
+          stands = g .stands;
+          few = omega (arith, g .less, z .few);
+          reached = omega arith;
+          rowed = numbered-rowed;
+          room = numbered-room;
+          same =
+              rw (add-one i)
+              (sym (shown-past (x .on) (x .duration) (spansOf out′ (x .count)) (numbered (suc i) (todo s msg q) (number - suc i)))
+              ∙ sym (less i (number - i) (number - suc i) (shownPage out′ x) (todo s msg q) (omega arith)) ∙ here c);
         }
 
-    pub numbered-off : (q : Pages) (d : ℕ) → t ≡ NextOff q d → i < number → Stands s msg number R O rows′ out′ q (i + 1)
-    numbered-off q d c h =
-        let g : Keeps (s .config) (length msg) (p .at) (weight (p .«page_state»)) (NextOff q d) = keeps (NextOff q d) c in
-        record {
-          sound = g .0;
-          few = omega (arith, g .1, z .few);
-          before = omega arith;
-          rowed = l ∙ z .rowed;
-          room = m ∙ z .room;
-          same = rw (add-one i) (sym (less i (number - i) (number - suc i) (off d) (todo s msg q) (omega arith)) ∙ here (NextOff q d) c);
-        }
+    pub numbered-end : t ≡ NextNone → Tells (End i)
+    numbered-end c = record { ends = here c; few = omega arith; room = numbered-room }
 
-    pub numbered-end : t ≡ NextNone → told (End i) out′ ≡ numbered 0 (pages s (items msg)) number
-    numbered-end c = here NextNone c
-
-    pub numbered-refused : (x : Refusal) → t ≡ NextRefused x → told (Refused x) out′ ≡ numbered 0 (pages s (items msg)) number
-    numbered-refused x c = go (number - i) ∙ here (NextRefused x) c
+    pub numbered-refused : {x : Refusal} → t ≡ NextRefused x → Tells (Refused x)
+    numbered-refused {x} c = record { ends = go (number - i) ∙ here c; few = omega arith; room = numbered-room }
       where
         go : (j : ℕ) → told (Refused x) out′ ≡ numbered i (refusedPage x ∷ []) j
         go zero = refl
         go (suc j) = refl
 
-    countable : (u : NextPage) → t ≡ u → Countable u
-    countable (NextOn q d n) c = let g : Keeps (s .config) (length msg) (p .at) (weight (p .«page_state»)) (NextOn q d n) = keeps (NextOn q d n) c in omega (arith, g .2)
-    countable (NextOff q d) c = tt
-    countable NextNone c = tt
-    countable (NextRefused x) c = tt
+    countable : (u : NextPage) → Goes u → IfShown (λ q x. x .count < 65536) u
+    countable (NextShown q x) g = omega (arith, g .few, z .ready .small)
+    countable NextNone g = tt
+    countable (NextRefused x) g = tt
 
-    pub next-countable : Countable t
-    next-countable = countable t refl
+    pub next-answerable : Answerable t i
+    next-answerable = record { few = count-small; countable = countable t (read .next) }
 
     asked : (j : ℕ) (u : NextPage) → j ≡ 0 → told (answerBy u i) out′ ≡ numbered i (nextTold s msg out′ u) j
-    asked j (NextOn q d n) h = rw (h, spans-length out′ n)
-    asked j (NextOff q d) h = rw h
+    asked j (NextShown q x) h = rw h (shown-said (x .on) (x .duration) (x .count) out′)
     asked j NextNone h = refl
     asked j (NextRefused x) h = rw h
 
-    few : (u : NextPage) → t ≡ u → countOf (answerBy u i) ≤ length msg
-    few (NextOn q d n) c = (keeps (NextOn q d n) c) .2
-    few (NextOff q d) c = omega arith
-    few NextNone c = omega arith
-    few (NextRefused x) c = omega arith
+    few : (u : NextPage) → Goes u → countOf (answerBy u i) ≤ length msg
+    few (NextShown q x) g = shown-few (x .on) (x .duration) (x .count) (length msg) (g .few)
+    few NextNone g = omega arith
+    few (NextRefused x) g = omega arith
 
-    pub numbered-few : (r : Answer) → r ≡ answerBy t i → countOf r ≤ length msg
-    numbered-few r c = subst (λ (x : Answer). countOf x ≤ length msg) (sym c) (few t refl)
-
-    pub numbered-asked : (r : Answer) → number ≤ i → r ≡ answerBy t i → told r out′ ≡ numbered 0 (pages s (items msg)) number
-    numbered-asked r h c = ap (λ (x : Answer). told x out′) c ∙ asked (number - i) t (omega arith) ∙ here t refl
-
-pub countable-on : (t : NextPage) (p : Pages) (d n : ℕ) → Countable t → t ≡ NextOn p d n → n < 65536
-countable-on t p d n h q = subst Countable q h
-
--- a refusal has no records
-pub none-counted : (r : Answer) (x : Refusal) (n : ℕ) → r ≡ Refused x → 15 * countOf r ≤ n
-none-counted r x n e = subst (λ (a : Answer). 15 * countOf a ≤ n) (sym e) (omega arith)
+    pub numbered-asked : {r : Answer} → number ≤ i → r ≡ answerBy t i → Tells r
+    numbered-asked h c = subst Tells (sym c) (record { ends = asked (number - i) t (omega arith) ∙ here refl; few = few t (read .next); room = numbered-room })
 
 -- ---- the checks
 
@@ -149,35 +197,59 @@ not-false : (w : Bool) → not w ≡ false → w ≡ true
 not-false true e = refl
 not-false false e = absurd (let z : _≡_ {A = ℕ} 0 1 = cc in omega arith)
 
-module _ (s : Board) (msg : List ℕ) (n room : ℕ) where
-  pub too-long : (l : List ℕ) (r : Answer) → 2048 < length msg → r ≡ Refused (refusal 2 0 0 0) → told r l ≡ checked s msg n room
-  too-long l r h e = rw (e, lt-ltb 2048 (length msg) h)
+module _ (file : List ℕ) (table : SignFile) (msg : List ℕ) (n room : ℕ) (out : List ℕ) where
+  abbrev Checks : List ℕ → Answer → Type 0
+  Checks = Checked file table msg n room out
 
-  pub ill-formed : (l : List ℕ) (r : Answer) (w : Bool) → length msg ≤ 2048 → w ≡ wellFormed msg → not w ≡ true → r ≡ Refused (refusal 3 0 0 0) → told r l ≡ checked s msg n room
-  ill-formed l r w h e f d = rw (d, le-ltb 2048 (length msg) h, ← e, not-true w f)
+  -- a refusal, which has no records
+  refused-so : {r : Answer} (x : Refusal) → r ≡ Refused x → said (Refused x) ≡ checked (boardIn file msg (table .config)) msg n room → Checks out r
+  refused-so x e d = subst (Checks out) (sym e) (record { ends = d; few = omega arith; long = refl })
 
-  pub no-room : (l : List ℕ) (r : Answer) (w : Bool) → length msg ≤ 2048 → w ≡ wellFormed msg → not w ≡ false → room < 1400 → r ≡ Refused (refusal 4 0 0 0) → told r l ≡ checked s msg n room
-  no-room l r w h e f g d = rw (d, le-ltb 2048 (length msg) h, ← e, not-false w f, lt-ltb room 1400 g)
+  pub too-long : {r : Answer} → 2048 < length msg → r ≡ Refused (refusal 2 0 0 0) → Checks out r
+  too-long h e = refused-so (refusal 2 0 0 0) e (rw (lt-ltb 2048 (length msg) h))
 
-  pub all-well : (x : Result) (w : Bool) → length msg ≤ 2048 → w ≡ wellFormed msg → not w ≡ false → 1400 ≤ room → x ≡ numbered 0 (pages s (items msg)) n → x ≡ checked s msg n room
-  all-well x w h e f g d = rw (le-ltb 2048 (length msg) h, ← e, not-false w f, le-ltb room 1400 g) d
+  -- w: the message is well-formed
+  module _ {r : Answer} (w : Bool) (h : length msg ≤ 2048) (e : w ≡ wellFormed msg) where
+    pub ill-formed : not w ≡ true → r ≡ Refused (refusal 3 0 0 0) → Checks out r
+    ill-formed f d = refused-so (refusal 3 0 0 0) d (rw (le-ltb 2048 (length msg) h, ← e, not-true w f))
+
+    pub no-room : not w ≡ false → room < 1400 → r ≡ Refused (refusal 4 0 0 0) → Checks out r
+    no-room f g d = refused-so (refusal 4 0 0 0) d (rw (le-ltb 2048 (length msg) h, ← e, not-false w f, lt-ltb room 1400 g))
+
+    pub all-well : {out′ : List ℕ} → not w ≡ false → 1400 ≤ room → Numbered file table msg n out out′ r → RecordRoom msg out → Checks out′ r
+    all-well f g d q =
+        record {
+          ends = rw (le-ltb 2048 (length msg) h, ← e, not-false w f, le-ltb room 1400 g) (d .ends);
+          few = omega (arith, q h, d .few);
+          long = d .room;
+        }
 
 -- ---- the sign file
 
-module _ (file msg : List ℕ) (n room : ℕ) (t : SignFile) (e : t ≡ tableOf (signFile file)) where
-  board-is : (c : Config) (fs : List Font) → signFile file ≡ Accepted c fs → boardIn file msg c ≡ boardOf msg c fs
+module _ (file : List ℕ) {t : SignFile} (e : t ≡ tableOf (signFile file)) where
+  board-is : (msg : List ℕ) (c : Config) (fs : List Font) → signFile file ≡ Accepted c fs → boardIn file msg c ≡ boardOf msg c fs
   unfolding boardOf meterIn
-  board-is c fs q = ap (λ (x : Sign). record { config = c; meter = meterOf msg (fontsIn x) }) q
+  board-is msg c fs q = ap (λ (x : Sign). record { config = c; meter = meterOf msg (fontsIn x) }) q
 
-  pub sign-good : Bytes file → t .outcome ≡ AcceptedOutcome → (x : Result) → x ≡ checked (boardIn file msg (t .config)) msg n room → x ≡ result file msg n room
+  pub sign-good : ((i : ℕ) → Val.Fits w8 (getD file i 0)) → t .outcome ≡ AcceptedOutcome
+      → {msg : List ℕ} {n room : ℕ} {out out′ : List ℕ} {r : Answer} → Checked file t msg n room out out′ r → Computed file msg n room out out′ r
   unfolding result
-  sign-good b h x d =
-      let a : Accepts file t = accepts file t e b h in
-      d ∙ ap (λ (y : Board). checked y msg n room) (board-is (t .config) (a .fs) (a .is)) ∙ ap (λ (y : Sign). resultOn y msg n room) (sym (a .is))
+  sign-good b h {msg} {n} {room} d =
+      let a : Accepts file t = accepts file t e (λ i. omega (arith, b i)) h in
+      record {
+        ends =
+            d .ends ∙ ap (λ (y : Board). checked y msg n room) (board-is msg (t .config) (a .fs) (a .is))
+            ∙ ap (λ (y : Sign). resultOn y msg n room) (sym (a .is));
+        few = d .few;
+        long = d .long;
+      }
 
-  pub sign-bad : (at : ℕ) → t .outcome ≡ RefusedOutcome at → (l : List ℕ) (r : Answer) → r ≡ Refused (refusal 1 at 0 0) → told r l ≡ result file msg n room
+  pub sign-bad : {at : ℕ} → t .outcome ≡ RefusedOutcome at → (msg : List ℕ) (n room : ℕ) (out : List ℕ) {r : Answer} → r ≡ Refused (refusal 1 at 0 0)
+      → Computed file msg n room out out r
   unfolding result
-  sign-bad at h l r d = ap (λ (y : Answer). told y l) d ∙ ap (λ (y : Sign). resultOn y msg n room) (sym (refuses file t e at h))
+  sign-bad {at} h msg n room out d =
+      subst (Computed file msg n room out out) (sym d)
+      (record { ends = ap (λ (y : Sign). resultOn y msg n room) (sym (refuses file t e at h)); few = omega arith; long = refl })
 
 -- ---- the count of the records
 
@@ -195,20 +267,19 @@ none-written (End n) l = refl
 none-written (Refused r) l = refl
 
 -- a is the answer, l holds its records, n is their count
-module _ (file msg : List ℕ) (number room : ℕ) (a : Answer) (l : List ℕ) (e : told a l ≡ result file msg number room) (n : ℕ) (c : n ≡ countOf a) where
-  counted : length ((result file msg number room) .written) ≡ n
-  counted = ap (λ (x : Result). length (x .written)) (sym e) ∙ count-told a l ∙ sym c
+module _ {file msg : List ℕ} {number room : ℕ} {out l : List ℕ} {a : Answer} (h : Computed file msg number room out l a) {n : ℕ} (c : n ≡ countOf a) where
+  abbrev x : Result
+  x = result file msg number room
 
-  count-fits : (n ≤ 1400) × (n ≤ room)
-  count-fits =
-      let r : (length ((result file msg number room) .written) ≤ 1400) × (length ((result file msg number room) .written) ≤ room) = result-room file msg number room in
-      (omega (arith, r .0, counted), omega (arith, r .1, counted))
+  counted : length (x .written) ≡ n
+  counted = ap (λ (y : Result). length (y .written)) (sym (h .ends)) ∙ count-told a l ∙ sym c
 
-  pub counted-is : 15 * countOf a ≤ length l → (a ≡ (result file msg number room) .answer) × (spansOf l n ≡ (result file msg number room) .written) × (n ≤ 1400) × (n ≤ room) × (15 * n ≤ length l)
-  counted-is h = (
-    ap (λ (x : Result). x .answer) e,
-    ap (spansOf l) c ∙ none-written a l ∙ ap (λ (x : Result). x .written) e,
-    count-fits .0,
-    count-fits .1,
-    subst (λ (k : ℕ). 15 * k ≤ length l) (sym c) h,
-  )
+  pub counted-is : (a ≡ x .answer) × (spansOf l n ≡ x .written) × (n ≤ 1400) × (n ≤ room) × (15 * n ≤ length l)
+  counted-is =
+      let r : (length (x .written) ≤ 1400) × (length (x .written) ≤ room) = result-room file msg number room in (
+        ap (λ (y : Result). y .answer) (h .ends),
+        ap (spansOf l) c ∙ none-written a l ∙ ap (λ (y : Result). y .written) (h .ends),
+        omega (arith, r .0, counted),
+        omega (arith, r .1, counted),
+        omega (arith, h .few, h .long, c),
+      )

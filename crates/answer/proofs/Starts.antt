@@ -6,6 +6,8 @@ use mathlib.Core.List.{List, [], _∷_}
 use native.Mathlib.Omega.{arith}
 use lib.Dec.{ltb}
 use lib.ListN.{length, getD}
+use mir.Val as Val
+use mir.Syntax.{w16}
 use borrow.Author.Tests.{ltb-false}
 use Rattle.base.specs.Pick.{pick}
 use Rattle.records.specs.Config.{isConfig}
@@ -66,10 +68,10 @@ fault-small file = go (ltb 65535 (length file)) refl
     go true q = omega arith
     go false q = first-small 65535 (cutFrom 0 0 file) (cuts-at 65535 0 0 file (omega (arith, ltb-false 65535 (length file) q)))
 
-pub start-small : (file : List ℕ) (t : SignFile) → t ≡ tableOf (signFile file) → (at : ℕ) → t .outcome ≡ RefusedOutcome at → at < 65536
+pub start-small : (file : List ℕ) {t : SignFile} → t ≡ tableOf (signFile file) → {at : ℕ} → t .outcome ≡ RefusedOutcome at → Val.Fits w16 at
 unfolding signFile
-start-small file t e at h = go (fault file) (fault-small file) (refuses file t e at h)
+start-small file {t} e {at} h = go (fault file) (fault-small file) (refuses file t e at h)
   where
-    go : (v : Verdict) → Small 65535 v → answer v (configIn (pieces file)) (fontsOf (pieces file)) ≡ RefusedAt at → at < 65536
+    go : (v : Verdict) → Small 65535 v → answer v (configIn (pieces file)) (fontsOf (pieces file)) ≡ RefusedAt at → Val.Fits w16 at
     go Fine s q = absurd (let z : _≡_ {A = ℕ} 0 1 = cc in omega arith)
     go (FailsAt n) s q = let k : n ≡ at = cc in omega (arith, s)

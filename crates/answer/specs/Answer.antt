@@ -1,13 +1,20 @@
 -- An answer as the code gives it: with its records in a slice of numbers.
-use Prim.Native.Nat.{ℕ, _<_}
+use Prim.Native.Nat.{ℕ, _≤_, _<_}
+use mathlib.Core.Path.{_≡_}
 use mathlib.Core.List.{List, []}
+use lib.ListN.{length}
+use Rattle.base.specs.Pick.{pick}
+use Rattle.sign.specs.declared.SignFile.{SignFile}
 use Rattle.layout.specs.declared.Span.{Span}
 use Rattle.layout.specs.declared.Answer.{Answer}
 use Rattle.layout.specs.declared.Answer.the-variants.{On, Off, End, Refused}
-use Rattle.layout.specs.Listing.{Result}
-use Rattle.rows.specs.Rows.{spansOf}
+use Rattle.layout.specs.Types.{items}
+use Rattle.layout.specs.Listing.{Result, pages, numbered, checked, result}
+use Rattle.rows.specs.Rows.{SpanRoom, spansOf}
+use Rattle.meter.specs.Gauges.{Opened}
+use Rattle.pages.specs.Pages.{boardIn, IfShown}
 use Rattle.pages.specs.declared.NextPage.{NextPage}
-use Rattle.pages.specs.declared.NextPage.the-variants.{On as NextOn, Off as NextOff, End as NextNone, Refused as NextRefused}
+use Rattle.pages.specs.declared.NextPage.the-variants.{Page as NextShown, End as NextNone, Refused as NextRefused}
 
 -- the records that an answer counts: the first of the slice
 abbrev pub writtenBy : Answer → List ℕ → List Span
@@ -21,17 +28,14 @@ told a l = record { answer = a; written = writtenBy a l }
 
 -- the answer that comes next, after c others
 abbrev pub answerBy : NextPage → ℕ → Answer
-answerBy (NextOn p d n) c = On d n
-answerBy (NextOff p d) c = Off d
+answerBy (NextShown p x) c = pick (x .on) (On (x .duration) (x .count)) (Off (x .duration))
 answerBy NextNone c = End c
 answerBy (NextRefused r) c = Refused r
 
--- its count of records has 16 bits
-abbrev pub Countable : NextPage → Type 0
-Countable (NextOn p d n) = n < 65536
-Countable (NextOff p d) = Unit {0}
-Countable NextNone = Unit {0}
-Countable (NextRefused r) = Unit {0}
+-- the answer that comes next, after count others, can be told in 16 bits
+pub record Answerable (n : NextPage) (count : ℕ) : Type 0 where
+  pub few : count < 65536
+  pub countable : IfShown (λ p x. x .count < 65536) n
 
 -- how many records an answer has
 abbrev pub countOf : Answer → ℕ
@@ -39,3 +43,36 @@ countOf (On d n) = n
 countOf (Off d) = 0
 countOf (End n) = 0
 countOf (Refused r) = 0
+
+-- room for the records of a message that is not too long: one for each of its bytes
+abbrev pub RecordRoom : List ℕ → List ℕ → Type 0
+RecordRoom msg out = length msg ≤ 2048 → SpanRoom (length msg) out
+
+-- a message for an accepted file, with room for its records
+pub record Listable (file : List ℕ) (table : SignFile) (msg out : List ℕ) : Type 0 where
+  pub opened : Opened file table
+  pub small : length msg ≤ 2048
+  pub room : SpanRoom (length msg) out
+
+-- the answer of a number; out was there before it, and out′ is after it
+pub record Numbered (file : List ℕ) (table : SignFile) (msg : List ℕ) (number : ℕ) (out out′ : List ℕ) (r : Answer) : Type 0 where
+  pub ends : told r out′ ≡ numbered 0 (pages (boardIn file msg (table .config)) (items msg)) number
+  pub few : countOf r ≤ length msg
+  pub room : length out′ ≡ length out
+
+-- any message for an accepted file
+pub record CheckAsked (file : List ℕ) (table : SignFile) (msg out : List ℕ) : Type 0 where
+  pub opened : Opened file table
+  pub room : RecordRoom msg out
+
+-- the answer of a number, after the checks of the message
+pub record Checked (file : List ℕ) (table : SignFile) (msg : List ℕ) (number room : ℕ) (out out′ : List ℕ) (r : Answer) : Type 0 where
+  pub ends : told r out′ ≡ checked (boardIn file msg (table .config)) msg number room
+  pub few : SpanRoom (countOf r) out
+  pub long : length out′ ≡ length out
+
+-- the answer of a call, with room records lent
+pub record Computed (file msg : List ℕ) (number room : ℕ) (out out′ : List ℕ) (r : Answer) : Type 0 where
+  pub ends : told r out′ ≡ result file msg number room
+  pub few : SpanRoom (countOf r) out
+  pub long : length out′ ≡ length out

@@ -1,12 +1,11 @@
 // The computation of an answer: sign file, message, answer number and room give the answer, and its records as rows of numbers.
 ghost use mathlib.Core.Path.{_≡_};
-ghost use Prim.Native.Nat.{_*_, _≤_, _<_};
+ghost use Prim.Native.Nat.{_*_, _≤_};
 ghost use lib.ListN.{length};
-ghost use Rattle.layout.specs.Types.{items, refusal as refusalOf};
-ghost use Rattle.layout.specs.Listing.{pages as pagesOf, numbered as numberedOf, checked as checkedOf, result};
-ghost use Rattle.meter.specs.Gauges.{Opened};
-ghost use Rattle.pages.specs.Pages.{boardIn};
-ghost use Rattle.answer.specs.Answer.{told, answerBy, Countable, countOf};
+ghost use Rattle.layout.specs.Types.{refusal as refusalOf};
+ghost use Rattle.layout.specs.Listing.{result};
+ghost use Rattle.pages.specs.Pages.{Ready};
+ghost use Rattle.answer.specs.Answer.{answerBy, Answerable, countOf, RecordRoom, Numbered, Listable, CheckAsked, Checked, Computed};
 ghost use Rattle.rows.specs.Rows.{spansOf};
 use layout::Answer;
 use pages::NextPage;
@@ -28,12 +27,16 @@ fn refuse(number: u8, start: u16) -> Answer
 
 // The answer that comes next, after count others.
 fn answer_of(n: NextPage, count: usize) -> Answer
-    requires { ⌜ (count < 65536) × Countable n ⌝ }
+    requires { ⌜ Answerable n count ⌝ }
     ensures { λ r. ⌜ r ≡ answerBy n count ⌝ }
 {
     match n {
-        NextPage::On(_, d, k) => Answer::On(d, k as u16),
-        NextPage::Off(_, d) => Answer::Off(d),
+        NextPage::Page(_, x) => {
+            if x.on {
+                return Answer::On(x.duration, x.count as u16);
+            }
+            Answer::Off(x.duration)
+        }
         NextPage::End => Answer::End(count as u16),
         NextPage::Refused(r) => Answer::Refused(r),
     }
@@ -48,20 +51,14 @@ fn numbered(
     rows: &mut [u16],
     out: &mut [u16],
 ) -> Answer
-    requires { ⌜ Opened (now file) table × (length (now msg) ≤ 2048) × (19 * length (now msg) ≤ length (now rows)) × (15 * length (now msg) ≤ length (now out)) ⌝ }
-    ensures { λ r. ⌜ (told r (now (out .exit)) ≡ numberedOf 0 (pagesOf (boardIn (now (file .entry)) (now (msg .entry)) (table .config)) (items (now (msg .entry)))) number)
-        × (countOf r ≤ length (now (msg .entry)))
-        × (length (now (rows .exit)) ≡ length (now (rows .entry))) × (length (now (out .exit)) ≡ length (now (out .entry))) ⌝ }
+    requires { ⌜ Ready (now file) table (now msg) (now rows) (now out) ⌝ }
+    ensures { λ r. ⌜ Numbered (now (file .entry)) table (now (msg .entry)) number (now (out .entry)) (now (out .exit)) r ⌝ }
 {
     let mut p = pages::first(table.config);
     let mut i: usize = 0;
     while i < number {
         match pages::next(file, table, msg, p, rows, out) {
-            NextPage::On(q, _, _) => {
-                p = q;
-                i += 1;
-            }
-            NextPage::Off(q, _) => {
+            NextPage::Page(q, _) => {
                 p = q;
                 i += 1;
             }
@@ -78,10 +75,8 @@ fn numbered(
 
 // The same, with rows for as many spans as the message can have: one for each of its bytes.
 fn paged(file: &[u8], table: SignFile, msg: &[u8], number: usize, out: &mut [u16]) -> Answer
-    requires { ⌜ Opened (now file) table × (length (now msg) ≤ 2048) × (15 * length (now msg) ≤ length (now out)) ⌝ }
-    ensures { λ r. ⌜ (told r (now (out .exit)) ≡ numberedOf 0 (pagesOf (boardIn (now (file .entry)) (now (msg .entry)) (table .config)) (items (now (msg .entry)))) number)
-        × (countOf r ≤ length (now (msg .entry)))
-        × (length (now (out .exit)) ≡ length (now (out .entry))) ⌝ }
+    requires { ⌜ Listable (now file) table (now msg) (now out) ⌝ }
+    ensures { λ r. ⌜ Numbered (now (file .entry)) table (now (msg .entry)) number (now (out .entry)) (now (out .exit)) r ⌝ }
 {
     if msg.len() <= 256 {
         let mut few = [0u16; 4864];
@@ -100,10 +95,8 @@ fn checked(
     room: usize,
     out: &mut [u16],
 ) -> Answer
-    requires { ⌜ Opened (now file) table × ((h : length (now msg) ≤ 2048) → 15 * length (now msg) ≤ length (now out)) ⌝ }
-    ensures { λ r. ⌜ (told r (now (out .exit)) ≡ checkedOf (boardIn (now (file .entry)) (now (msg .entry)) (table .config)) (now (msg .entry)) number room)
-        × (15 * countOf r ≤ length (now (out .entry)))
-        × (length (now (out .exit)) ≡ length (now (out .entry))) ⌝ }
+    requires { ⌜ CheckAsked (now file) table (now msg) (now out) ⌝ }
+    ensures { λ r. ⌜ Checked (now (file .entry)) table (now (msg .entry)) number room (now (out .entry)) (now (out .exit)) r ⌝ }
 {
     if 2048 < msg.len() {
         return refuse(2, 0);
@@ -119,10 +112,8 @@ fn checked(
 
 // The answer, and its records first in the slice, which has room for as many as the message has bytes.
 pub fn compute(file: &[u8], msg: &[u8], number: usize, room: usize, out: &mut [u16]) -> Answer
-    requires { ⌜ ((h : length (now msg) ≤ 2048) → 15 * length (now msg) ≤ length (now out)) ⌝ }
-    ensures { λ r. ⌜ (told r (now (out .exit)) ≡ result (now (file .entry)) (now (msg .entry)) number room)
-        × (15 * countOf r ≤ length (now (out .entry)))
-        × (length (now (out .exit)) ≡ length (now (out .entry))) ⌝ }
+    requires { ⌜ RecordRoom (now msg) (now out) ⌝ }
+    ensures { λ r. ⌜ Computed (now (file .entry)) (now (msg .entry)) number room (now (out .entry)) (now (out .exit)) r ⌝ }
 {
     let table = sign::read_sign(file);
     let outcome = table.outcome;
@@ -152,8 +143,10 @@ pub struct AnswerCount {
 
 // The answer with the count of its records, which stand first in the slice.
 pub fn counted(file: &[u8], msg: &[u8], number: usize, room: usize, out: &mut [u16]) -> AnswerCount
-    requires { ⌜ ((h : length (now msg) ≤ 2048) → 15 * length (now msg) ≤ length (now out)) ⌝ }
-    ensures { λ r. ⌜ (r .answer ≡ (result (now (file .entry)) (now (msg .entry)) number room) .answer) × (spansOf (now (out .exit)) (r .count) ≡ (result (now (file .entry)) (now (msg .entry)) number room) .written) × (r .count ≤ 1400) × (r .count ≤ room) × (15 * r .count ≤ length (now (out .exit))) ⌝ }
+    requires { ⌜ RecordRoom (now msg) (now out) ⌝ }
+    ensures { λ r. ⌜ (r .answer ≡ (result (now (file .entry)) (now (msg .entry)) number room) .answer)
+        × (spansOf (now (out .exit)) (r .count) ≡ (result (now (file .entry)) (now (msg .entry)) number room) .written)
+        × (r .count ≤ 1400) × (r .count ≤ room) × (15 * r .count ≤ length (now (out .exit))) ⌝ }
 {
     let answer = compute(file, msg, number, room, out);
     let count = count_of(answer);

@@ -1,5 +1,5 @@
 -- The answers, one after the other.
-use Prim.Native.Nat.{ℕ, zero, suc, _≤_}
+use Prim.Native.Nat.{ℕ, zero, suc, _+_, _*_, _≤_}
 use mathlib.Core.Path.{_≡_, refl, sym, _∙_, ap, subst}
 use mathlib.Core.Bool.{Bool, true, false}
 use mathlib.Core.List.{List, [], _∷_}
@@ -8,8 +8,10 @@ use borrow.Author.Tests.{lt-ltb}
 use lib.Dec.{ltb}
 use lib.ListN.{length}
 use Rattle.token.specs.Token.{slices}
+use Rattle.base.specs.Pick.{pick}
 use Rattle.reading.specs.declared.Refusal.{Refusal}
 use Rattle.records.specs.declared.Config.{Config}
+use Rattle.sign.specs.declared.SignFile.{SignFile}
 use Rattle.layout.specs.declared.RenderState.{RenderState}
 use Rattle.layout.specs.Types.{Item, items, Board}
 use Rattle.layout.specs.Read.{Scan, scan, stopIf, read, opening, events}
@@ -22,12 +24,13 @@ use Rattle.page.specs.declared.PageState.the-variants.{On as OnState, Off as Of
 use Rattle.page.specs.State.{newPage as newState, doneAfter, nextState}
 use Rattle.page.specs.Scan.{faultIs, told as scanTold, itemsFrom}
 use Rattle.rows.specs.Rows.{spansOf}
+use Rattle.pages.specs.declared.PageDone.{PageDone}
 use Rattle.pages.specs.declared.PageEnd.{PageEnd}
-use Rattle.pages.specs.declared.PageEnd.the-variants.{Refused as RefusedEnd, Next as NextEnd, Last as LastEnd}
+use Rattle.pages.specs.declared.PageEnd.the-variants.{Refused as RefusedEnd, Ended as EndedPage}
 use Rattle.pages.specs.declared.Pages.{Pages}
 use Rattle.pages.specs.declared.NextPage.{NextPage}
-use Rattle.pages.specs.declared.NextPage.the-variants.{Off as NextOff, End as NextNone, Refused as NextRefused}
-use Rattle.pages.specs.Pages.{run, turned, pageTold, PageFits, pagesAt, shownBy, offBy, firstOf, todoBy, todo, nextTold, Sound, weight, Keeps}
+use Rattle.pages.specs.declared.NextPage.the-variants.{Page as NextShown, End as NextNone, Refused as NextRefused}
+use Rattle.pages.specs.Pages.{boardIn, run, turned, pageTold, IfPageEnded, PageInMessage, PageRendered, pagesAt, stateAfter, shownBy, offBy, firstOf, todo, nextTold, InMessage, weight, IfShown, Advances, NextAsked, NextRead}
 use Rattle.pages.proofs.Laws.{whole-inside}
 
 -- ---- an on page
@@ -56,8 +59,17 @@ module _ (s : Board) (msg : List ℕ) (its : List Item) (a b : ℕ) (st : Render
   pub on-run : q .fault ≡ None → turned s its a b st ≡ run s its (q .on) (q .off) st [] 0
   on-run h = scanned ∙ run-told (q .fault) h
 
+-- a page that ended so
+pub shown-refused : (a b : ℕ) {v : PageEnd} {x : Refusal} → v ≡ RefusedEnd x → NextRefused x ≡ shownBy a b v
+shown-refused a b q = rw q
+
+pub shown-page : (a b : ℕ) {v : PageEnd} {d : PageDone} {st : PageState} → v ≡ EndedPage d → st ≡ stateAfter (d .more) b
+    → NextShown (pagesAt (d .at) (d .state) a b st) (record { on = true; duration = a; count = d .count }) ≡ shownBy a b v
+shown-page a b q e = rw (q, e)
+
 -- what follows a page
-new-todo : (s : Board) (msg : List ℕ) (at : ℕ) (st : RenderState) (a b : ℕ) → offs b (turned s (itemsFrom at msg) a b st) ≡ todo s msg (pagesAt at st a b (newState (ltb 0 b)))
+new-todo : (s : Board) (msg : List ℕ) (at : ℕ) (st : RenderState) (a b : ℕ)
+    → offs b (turned s (itemsFrom at msg) a b st) ≡ todo s msg (pagesAt at st a b (newState (ltb 0 b)))
 new-todo s msg at st a zero = refl
 new-todo s msg at st a (suc b) = rw (lt-ltb 0 (suc b) (omega arith))
 
@@ -65,10 +77,14 @@ done-todo : (s : Board) (msg : List ℕ) (at : ℕ) (st : RenderState) (a b : �
 done-todo s msg at st a zero = refl
 done-todo s msg at st a (suc b) = rw (lt-ltb 0 (suc b) (omega arith))
 
-shown-told : (s : Board) (msg : List ℕ) (p : Pages) (a b : ℕ) (l : List ℕ) (v : PageEnd) → pageTold s msg a b l v ≡ nextTold s msg l (shownBy p a b v)
-shown-told s msg p a b l (RefusedEnd r) = refl
-shown-told s msg p a b l (NextEnd at n st) = ap (λ (x : List Page). on a (spansOf l n) ∷ x) (new-todo s msg at st a b)
-shown-told s msg p a b l (LastEnd n) = ap (λ (x : List Page). on a (spansOf l n) ∷ x) (done-todo s msg (p .at) (p .«render_state») a b)
+after-todo : (s : Board) (msg : List ℕ) (at : ℕ) (st : RenderState) (a b : ℕ) (m : Bool)
+    → offs b (pick m (turned s (itemsFrom at msg) a b st) []) ≡ todo s msg (pagesAt at st a b (stateAfter m b))
+after-todo s msg at st a b true = new-todo s msg at st a b
+after-todo s msg at st a b false = done-todo s msg at st a b
+
+shown-told : (s : Board) (msg : List ℕ) (a b : ℕ) (l : List ℕ) (v : PageEnd) → pageTold s msg a b l v ≡ nextTold s msg l (shownBy a b v)
+shown-told s msg a b l (RefusedEnd r) = refl
+shown-told s msg a b l (EndedPage d) = ap (λ (x : List Page). on a (spansOf l (d .count)) ∷ x) (after-todo s msg (d .at) (d .state) a b (d .more))
 
 new-weight : (t : Bool) → weight (newState t) ≤ 3
 new-weight true = omega arith
@@ -78,56 +94,78 @@ done-weight : (t : Bool) → weight (doneAfter t) ≤ 1
 done-weight true = omega arith
 done-weight false = omega arith
 
-shown-keeps : (c : Config) (all : ℕ) (p : Pages) (a b : ℕ) (v : PageEnd) → Sound c all p → PageFits c (p .at) all v → Keeps c all (p .at) 2 (shownBy p a b v)
-shown-keeps c all p a b (RefusedEnd r) h f = tt
-shown-keeps c all p a b (NextEnd at n st) h f = (record { within = f .2; inside = f .3 }, omega (arith, new-weight (ltb 0 b), f .1), f .0)
-shown-keeps c all p a b (LastEnd n) h f = (record { within = h .within; inside = h .inside }, omega (arith, done-weight (ltb 0 b)), f)
+after-weight : (m : Bool) (b : ℕ) → weight (stateAfter m b) ≤ 2 * pick m 1 0 + 1
+after-weight true b = new-weight (ltb 0 b)
+after-weight false b = done-weight (ltb 0 b)
 
-module _ (s : Board) (msg : List ℕ) (p : Pages) (q : PageScan) (e : scanTold q ≡ scan (s .config) (p .on) (p .off) (itemsFrom (p .at) msg)) where
-  abbrev Told : List ℕ → NextPage → Type 0
-  Told l r = (turned s (itemsFrom (p .at) msg) (p .on) (p .off) (p .«render_state») ≡ nextTold s msg l r) × Keeps (s .config) (length msg) (p .at) 2 r
+-- at is the page's place
+shown-advances : (c : Config) (all at a b : ℕ) (v : PageEnd) → IfPageEnded (PageInMessage c at all) v → IfShown (Advances c all at 2) (shownBy a b v)
+shown-advances c all at a b (RefusedEnd r) f = tt
+shown-advances c all at a b (EndedPage d) f =
+    record { stands = record { within = f .within; inside = f .inside }; less = omega (arith, after-weight (d .more) b, f .forward); few = f .few }
 
-  pub on-stop : (l : List ℕ) (o : OptRefusal) (x : Refusal) → o ≡ q .fault → o ≡ Some x → Told l (NextRefused x)
-  on-stop l o x d h = (on-refused s msg (itemsFrom (p .at) msg) (p .on) (p .off) (p .«render_state») q e x (sym d ∙ h), tt)
+module _ {file : List ℕ} {table : SignFile} {msg : List ℕ} {p : Pages} {rows out : List ℕ} (asked : NextAsked file table msg p rows out)
+    (q : PageScan) (e : scanTold q ≡ scan (table .config) (p .on) (p .off) (itemsFrom (p .at) msg)) where
+  abbrev s : Board
+  s = boardIn file msg (table .config)
 
-  pub on-shown : (l : List ℕ) (o : OptRefusal) (v : PageEnd) (r : NextPage) → o ≡ q .fault → o ≡ None → ((a b : ℕ) → run s (itemsFrom (p .at) msg) a b (p .«render_state») [] 0 ≡ pageTold s msg a b l v)
-      → PageFits (s .config) (p .at) (length msg) v → Sound (s .config) (length msg) p → r ≡ shownBy p (q .on) (q .off) v → Told l r
-  on-shown l o v r d h t f z k = (
-    on-run s msg (itemsFrom (p .at) msg) (p .on) (p .off) (p .«render_state») q e (sym d ∙ h) ∙ t (q .on) (q .off) ∙ shown-told s msg p (q .on) (q .off) l v ∙ ap (nextTold s msg l) (sym k),
-    subst (Keeps (s .config) (length msg) (p .at) 2) (sym k) (shown-keeps (s .config) (length msg) p (q .on) (q .off) v z f),
-  )
+  abbrev its : List Item
+  its = itemsFrom (p .at) msg
+
+  -- answered so in the state on
+  abbrev Reads : List ℕ → List ℕ → NextPage → Type 0
+  Reads rows′ out′ r = NextRead file table msg p rows out rows′ out′ (OnState true) r
+
+  pub on-stop : {x : Refusal} → q .fault ≡ Some x → Reads rows out (NextRefused x)
+  on-stop {x} h = record { ends = on-refused s msg its (p .on) (p .off) (p .«render_state») q e x h; next = tt; rowed = refl; room = refl }
+
+  pub on-shown : {rows′ out′ : List ℕ} {v : PageEnd} {r : NextPage} → q .fault ≡ None
+      → PageRendered file table msg (p .at) (p .«render_state») rows out rows′ out′ v → r ≡ shownBy (q .on) (q .off) v → Reads rows′ out′ r
+  on-shown {rows′} {out′} {v} h t k =
+      subst (Reads rows′ out′) (sym k)
+      (record {
+        ends =
+            on-run s msg its (p .on) (p .off) (p .«render_state») q e h ∙ t .ends (q .on) (q .off)
+            ∙ shown-told s msg (q .on) (q .off) out′ v;
+        next = shown-advances (table .config) (length msg) (p .at) (q .on) (q .off) v (t .done);
+        rowed = t .rowed;
+        room = t .room;
+      })
 
 -- ---- the next answer
 
-module _ (s : Board) (msg : List ℕ) (p : Pages) (w : PageState) (d : w ≡ p .«page_state») (z : Sound (s .config) (length msg) p) where
-  abbrev Answers : List ℕ → NextPage → Type 0
-  Answers l r = (todo s msg p ≡ nextTold s msg l r) × Keeps (s .config) (length msg) (p .at) (weight (p .«page_state»)) r
+module _ {file : List ℕ} {table : SignFile} {msg : List ℕ} {p : Pages} {rows out rows′ out′ : List ℕ} {r : NextPage} where
+  pub next-on : {b : Bool} → p .«page_state» ≡ OnState b → NextRead file table msg p rows out rows′ out′ (OnState true) r
+      → NextRead file table msg p rows out rows′ out′ (p .«page_state») r
+  next-on q h =
+      subst (λ (x : PageState). NextRead file table msg p rows out rows′ out′ x r) (sym q)
+      (record { ends = h .ends; next = h .next; rowed = h .rowed; room = h .room })
 
-  -- the same in a state
-  abbrev In : PageState → List ℕ → NextPage → Type 0
-  In x l r = (todoBy s msg p x ≡ nextTold s msg l r) × Keeps (s .config) (length msg) (p .at) (weight x) r
-
-  back : (x : PageState) → w ≡ x → (l : List ℕ) (r : NextPage) → In x l r → Answers l r
-  back x q l r h = subst (λ (y : PageState). In y l r) (sym q ∙ d) h
-
-  pub next-on : (b : Bool) → w ≡ OnState b → (l : List ℕ) (r : NextPage) → turned s (itemsFrom (p .at) msg) (p .on) (p .off) (p .«render_state») ≡ nextTold s msg l r → Keeps (s .config) (length msg) (p .at) 2 r → Answers l r
-  next-on b q l r h k = back (OnState b) q l r (h, k)
+module _ {file : List ℕ} {table : SignFile} {msg : List ℕ} {p : Pages} {rows out : List ℕ} (z : NextAsked file table msg p rows out) where
+  -- answered so in a state, with nothing written
+  abbrev Tells : PageState → NextPage → Type 0
+  Tells = NextRead file table msg p rows out rows out
 
   -- an off page in a state
   abbrev offIn : PageState → NextPage
-  offIn x = NextOff (pagesAt (p .at) (p .«render_state») (p .on) (p .off) (nextState x)) (p .off)
+  offIn x = NextShown (pagesAt (p .at) (p .«render_state») (p .on) (p .off) (nextState x)) (record { on = false; duration = p .off; count = 0 })
 
-  off-in : (b : Bool) (l : List ℕ) → In (OffState b) l (offIn (OffState b))
-  off-in true l = (refl, (record { within = z .within; inside = z .inside }, omega arith))
-  off-in false l = (refl, (record { within = z .within; inside = z .inside }, omega arith))
+  stays : {x : PageState} → InMessage (table .config) (length msg) (pagesAt (p .at) (p .«render_state») (p .on) (p .off) x)
+  stays = record { within = z .stands .within; inside = z .stands .inside }
 
-  pub next-off : (b : Bool) → w ≡ OffState b → (l : List ℕ) (r : NextPage) → r ≡ offBy p → Answers l r
-  next-off b q l r k =
-      let h : OffState b ≡ p .«page_state» = sym q ∙ d in
-      subst (Answers l) (ap offIn h ∙ sym k) (back (OffState b) q l (offIn (OffState b)) (off-in b l))
+  off-advances : (b : Bool) → IfShown (Advances (table .config) (length msg) (p .at) (weight (OffState b))) (offIn (OffState b))
+  off-advances true = record { stands = stays; less = omega arith; few = omega arith }
+  off-advances false = record { stands = stays; less = omega arith; few = omega arith }
 
-  pub next-done : w ≡ Done → (l : List ℕ) → Answers l NextNone
-  next-done q l = back Done q l NextNone (refl, tt)
+  off-in : (b : Bool) → Tells (OffState b) (offIn (OffState b))
+  off-in true = record { ends = refl; next = off-advances true; rowed = refl; room = refl }
+  off-in false = record { ends = refl; next = off-advances false; rowed = refl; room = refl }
+
+  pub next-off : {b : Bool} {r : NextPage} → p .«page_state» ≡ OffState b → r ≡ offBy p → Tells (p .«page_state») r
+  next-off {b} q k = subst (Tells (p .«page_state»)) (sym k) (subst (λ (x : PageState). Tells x (offIn x)) (sym q) (off-in b))
+
+  pub next-done : p .«page_state» ≡ Done → Tells (p .«page_state») NextNone
+  next-done q = subst (λ (x : PageState). Tells x NextNone) (sym q) (record { ends = refl; next = tt; rowed = refl; room = refl })
 
 -- ---- before the first answer
 
@@ -135,5 +173,5 @@ pub pages-todo : (s : Board) (msg : List ℕ) → pages s (items msg) ≡ todo s
 unfolding pages events opening turned items itemsFrom slices
 pages-todo s msg = refl
 
-pub first-sound : (c : Config) (all : ℕ) → Sound c all (firstOf c)
-first-sound c all = record { within = omega arith; inside = whole-inside c }
+pub first-in : (c : Config) (all : ℕ) → InMessage c all (firstOf c)
+first-in c all = record { within = omega arith; inside = whole-inside c }

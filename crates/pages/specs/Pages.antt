@@ -1,44 +1,60 @@
 -- The pages of a message as the code goes through them: pass by pass, page by page, answer by answer. `pages-todo` of proofs/Answers.antt says that
 -- layout's `pages` is what is to come before the first answer.
-use Prim.Native.Nat.{ℕ, _+_, _*_, _≤_, _<_}
+use Prim.Native.Nat.{ℕ, _+_, _*_, _≤_}
 use mathlib.Core.Path.{_≡_}
-use mathlib.Core.Bool.{true, false}
+use mathlib.Core.Bool.{Bool, true, false}
 use mathlib.Core.Option.{Option, none, some}
 use mathlib.Core.List.{List, [], _∷_, _++_}
 use lib.Dec.{ltb}
+use lib.ListN.{length}
+use Rattle.base.specs.Pick.{pick}
 use Rattle.reading.specs.declared.Refusal.{Refusal}
 use Rattle.records.specs.declared.Config.{Config}
+use Rattle.sign.specs.declared.SignFile.{SignFile}
 use Rattle.layout.specs.declared.RenderState.{RenderState}
 use Rattle.layout.specs.declared.Entry.{Entry}
 use Rattle.layout.specs.declared.Span.{Span}
 use Rattle.layout.specs.Types.{Item, Board, refusal}
-use Rattle.layout.specs.Read.{Scan, scan, stopIf, start, read}
+use Rattle.layout.specs.Read.{Scan, scan, stopIf, start, newPage, read}
 use Rattle.layout.specs.Place.{passFault, passRecords}
 use Rattle.layout.specs.Listing.{Page, on, off, refused as refusedPage, offs, walk}
 use Rattle.page.specs.declared.PageState.{PageState}
 use Rattle.page.specs.declared.PageState.the-variants.{On as OnState, Off as OffState, Done}
 use Rattle.page.specs.State.{newPage as newState, doneAfter, nextState}
 use Rattle.page.specs.Scan.{itemsFrom}
-use Rattle.rows.specs.Rows.{spansOf}
-use Rattle.meter.specs.Gauges.{meterIn}
+use Rattle.rows.specs.Rows.{RowRoom, SpanRoom, spansOf}
+use Rattle.meter.specs.Gauges.{Opened, meterIn}
+use Rattle.pass.specs.declared.PassDone.{PassDone}
 use Rattle.pass.specs.declared.PassEnd.{PassEnd}
-use Rattle.pass.specs.declared.PassEnd.the-variants.{Refused as RefusedPass, Cut as CutPass, Turn as TurnPass, End as EndPass}
-use Rattle.pass.specs.Pass.{Ending, refused, cut, turn, ended, Inside}
+use Rattle.pass.specs.declared.PassEnd.the-variants.{Refused as RefusedPass, Ended as EndedPass}
+use Rattle.pass.specs.Pass.{Ending, refused, ended, entriesOf, endingOf, told, IfEnded, Inside, tagBytes}
+use Rattle.pages.specs.declared.PageDone.{PageDone}
 use Rattle.pages.specs.declared.PageEnd.{PageEnd}
-use Rattle.pages.specs.declared.PageEnd.the-variants.{Refused as RefusedEnd, Next as NextEnd, Last as LastEnd}
+use Rattle.pages.specs.declared.PageEnd.the-variants.{Refused as RefusedEnd, Ended as EndedPage}
 use Rattle.pages.specs.declared.Pages.{Pages}
+use Rattle.pages.specs.declared.PageShown.{PageShown}
 use Rattle.pages.specs.declared.NextPage.{NextPage}
-use Rattle.pages.specs.declared.NextPage.the-variants.{On as NextOn, Off as NextOff, End as NextNone, Refused as NextRefused}
+use Rattle.pages.specs.declared.NextPage.the-variants.{Page as NextShown, End as NextNone, Refused as NextRefused}
 
 -- the sign of an accepted file, for a message
 abbrev pub boardIn : List ℕ → List ℕ → Config → Board
 boardIn file msg c = record { config = c; meter = meterIn file msg }
 
--- ---- a pass that is placed
+-- a message for an accepted file, with room for its rows and its records
+pub record Ready (file : List ℕ) (table : SignFile) (msg rows out : List ℕ) : Type 0 where
+  pub opened : Opened file table
+  pub small : length msg ≤ 2048
+  pub rowed : RowRoom (length msg) rows
+  pub room : SpanRoom (length msg) out
 
-abbrev pub orRefused : Option Refusal → PassEnd → PassEnd
-orRefused none e = e
-orRefused (some r) e = RefusedPass r
+-- what is to be read and placed from a place on, with n records of its page before it
+pub record RenderAsked (file : List ℕ) (table : SignFile) (msg rows out : List ℕ) (from : ℕ) (st : RenderState) (n : ℕ) : Type 0 where
+  pub ready : Ready file table msg rows out
+  pub within : from ≤ length msg
+  pub counted : n ≤ from
+  pub inside : Inside (table .config) (st .rect)
+
+-- ---- a pass that is placed
 
 abbrev pub stopBy : Option Refusal → Ending → Ending
 stopBy none e = e
@@ -46,23 +62,26 @@ stopBy (some r) e = refused r
 
 abbrev pub placedEnding : Board → List Entry → Ending → Ending
 placedEnding s es (refused r) = refused r
-placedEnding s es (cut r st its) = stopBy (passFault s r es) (cut r st its)
-placedEnding s es (turn r st its) = stopBy (passFault s r es) (turn r st its)
-placedEnding s es (ended r) = stopBy (passFault s r es) (ended r)
+placedEnding s es (ended h r st its) = stopBy (passFault s r es) (ended h r st its)
 
--- the slice's first records are those before the pass and its own, unless it is refused
-abbrev pub Written : Board → List Entry → List Span → List ℕ → PassEnd → Type 0
-Written s es rs l (RefusedPass r) = Unit {0}
-Written s es rs l (CutPass at n r st) = spansOf l n ≡ rs ++ passRecords s r es
-Written s es rs l (TurnPass at n r st) = spansOf l n ≡ rs ++ passRecords s r es
-Written s es rs l (EndPass n r) = spansOf l n ≡ rs ++ passRecords s r es
+-- its spans es are placed: the first records are those before it and its own, no more than there are bytes; out were there before it
+pub record SpansPlaced (s : Board) (es : List Entry) (msg : List ℕ) (from : ℕ) (out : List ℕ) (at : ℕ) (out′ : List ℕ) (d : PassDone) : Type 0 where
+  pub written : spansOf out′ (d .count) ≡ spansOf out at ++ passRecords s (d .rect) es
+  pub counted : d .count ≤ d .at
+  pub forward : from + tagBytes (d .how) ≤ d .at
+  pub within : d .at ≤ length msg
+  pub inside : Inside (s .config) (d .state .rect)
 
--- a page has no more records than bytes
-abbrev pub Fits : Config → ℕ → ℕ → PassEnd → Type 0
-Fits c from all (RefusedPass r) = Unit {0}
-Fits c from all (CutPass at n r st) = (n ≤ at) × (from < at) × (at ≤ all) × Inside c (st .rect)
-Fits c from all (TurnPass at n r st) = (n ≤ at) × (from < at) × (at ≤ all)
-Fits c from all (EndPass n r) = n ≤ all
+-- the pass from a place on was read and placed, and ended so; rows and out were there before it, and rows′ and out′ are after it
+pub record PassRendered (file : List ℕ) (table : SignFile) (msg : List ℕ) (from : ℕ) (st : RenderState) (rows out : List ℕ) (at : ℕ)
+    (rows′ out′ : List ℕ) (r : PassEnd) : Type 0 where
+  pub ends :
+      told msg r
+      ≡ placedEnding (boardIn file msg (table .config)) (entriesOf (table .config) (itemsFrom from msg) st true)
+      (endingOf (table .config) (itemsFrom from msg) st true)
+  pub done : IfEnded (SpansPlaced (boardIn file msg (table .config)) (entriesOf (table .config) (itemsFrom from msg) st true) msg from out at out′) r
+  pub rowed : length rows′ ≡ length rows
+  pub room : length out′ ≡ length out
 
 -- ---- a page
 
@@ -82,34 +101,55 @@ tooMany = RefusedEnd (refusal 15 0 0 0)
 
 abbrev pub lastOf : PassEnd → PageEnd
 lastOf (RefusedPass r) = RefusedEnd r
-lastOf (CutPass at n r st) = tooMany
-lastOf (TurnPass at n r st) = tooMany
-lastOf (EndPass n r) = tooMany
+lastOf (EndedPass d) = tooMany
+
+-- the page whose last pass is done
+abbrev pub pageDone : Config → Bool → PassDone → PageDone
+pageDone c more d = record { more = more; at = d .at; count = d .count; state = newPage c (d .state) }
 
 -- the answers that a page's end tells; l holds its records
 abbrev pub pageTold : Board → List ℕ → ℕ → ℕ → List ℕ → PageEnd → List Page
 pageTold s msg a b l (RefusedEnd r) = refusedPage r ∷ []
-pageTold s msg a b l (NextEnd at n st) = on a (spansOf l n) ∷ offs b (turned s (itemsFrom at msg) a b st)
-pageTold s msg a b l (LastEnd n) = on a (spansOf l n) ∷ offs b []
+pageTold s msg a b l (EndedPage d) = on a (spansOf l (d .count)) ∷ offs b (pick (d .more) (turned s (itemsFrom (d .at) msg) a b (d .state)) [])
 
-abbrev pub PageFits : Config → ℕ → ℕ → PageEnd → Type 0
-PageFits c from all (RefusedEnd r) = Unit {0}
-PageFits c from all (NextEnd at n st) = (n ≤ all) × (from < at) × (at ≤ all) × Inside c (st .rect)
-PageFits c from all (LastEnd n) = n ≤ all
+-- what is said of a page, unless it is refused
+abbrev pub IfPageEnded : (PageDone → Type 0) → PageEnd → Type 0
+IfPageEnded P (RefusedEnd r) = Unit {0}
+IfPageEnded P (EndedPage d) = P d
+
+-- a page from a place on that is done has no more records than bytes, and lies in the message; [np] has a byte at least
+pub record PageInMessage (c : Config) (from all : ℕ) (d : PageDone) : Type 0 where
+  pub few : d .count ≤ all
+  pub forward : from + pick (d .more) 1 0 ≤ d .at
+  pub within : d .at ≤ all
+  pub inside : Inside c (d .state .rect)
+
+-- the page from a place on was read and placed, and ended so
+pub record PageRendered (file : List ℕ) (table : SignFile) (msg : List ℕ) (from : ℕ) (first : RenderState) (rows out rows′ out′ : List ℕ)
+    (r : PageEnd) : Type 0 where
+  pub ends : (a b : ℕ)
+      → run (boardIn file msg (table .config)) (itemsFrom from msg) a b first [] 0 ≡ pageTold (boardIn file msg (table .config)) msg a b out′ r
+  pub done : IfPageEnded (PageInMessage (table .config) from (length msg)) r
+  pub rowed : length rows′ ≡ length rows
+  pub room : length out′ ≡ length out
 
 -- ---- an answer
 
 abbrev pub pagesAt : ℕ → RenderState → ℕ → ℕ → PageState → Pages
 pagesAt at st a b p = record { at = at; «render_state» = st; on = a; off = b; «page_state» = p }
 
--- what follows a page that ended so
-abbrev pub shownBy : Pages → ℕ → ℕ → PageEnd → NextPage
-shownBy p a b (RefusedEnd r) = NextRefused r
-shownBy p a b (NextEnd at n st) = NextOn (pagesAt at st a b (newState (ltb 0 b))) a n
-shownBy p a b (LastEnd n) = NextOn (pagesAt (p .at) (p .«render_state») a b (doneAfter (ltb 0 b))) a n
+-- on or off after an on page with the off time b
+abbrev pub stateAfter : Bool → ℕ → PageState
+stateAfter more b = pick more (newState (ltb 0 b)) (doneAfter (ltb 0 b))
 
+-- the answer of an on page that ended so
+abbrev pub shownBy : ℕ → ℕ → PageEnd → NextPage
+shownBy a b (RefusedEnd r) = NextRefused r
+shownBy a b (EndedPage d) = NextShown (pagesAt (d .at) (d .state) a b (stateAfter (d .more) b)) (record { on = true; duration = a; count = d .count })
+
+-- an off page
 abbrev pub offBy : Pages → NextPage
-offBy p = NextOff (pagesAt (p .at) (p .«render_state») (p .on) (p .off) (nextState (p .«page_state»))) (p .off)
+offBy p = NextShown (pagesAt (p .at) (p .«render_state») (p .on) (p .off) (nextState (p .«page_state»))) (record { on = false; duration = p .off; count = 0 })
 
 -- before the first answer
 abbrev pub firstOf : Config → Pages
@@ -125,15 +165,18 @@ todoBy s msg p Done = []
 abbrev pub todo : Board → List ℕ → Pages → List Page
 todo s msg p = todoBy s msg p (p .«page_state»)
 
--- the same as the next answer tells it; l holds its records
+-- layout's page of an answer; l holds its records
+abbrev pub shownPage : List ℕ → PageShown → Page
+shownPage l x = pick (x .on) (on (x .duration) (spansOf l (x .count))) (off (x .duration))
+
+-- the answers to come as the next one tells them
 abbrev pub nextTold : Board → List ℕ → List ℕ → NextPage → List Page
-nextTold s msg l (NextOn p d n) = on d (spansOf l n) ∷ todo s msg p
-nextTold s msg l (NextOff p d) = off d ∷ todo s msg p
+nextTold s msg l (NextShown p x) = shownPage l x ∷ todo s msg p
 nextTold s msg l NextNone = []
 nextTold s msg l (NextRefused r) = refusedPage r ∷ []
 
--- inside the message and the sign
-pub record Sound (c : Config) (all : ℕ) (p : Pages) : Type 0 where
+-- in the message and on the sign
+pub record InMessage (c : Config) (all : ℕ) (p : Pages) : Type 0 where
   pub within : p .at ≤ all
   pub inside : Inside c (p .«render_state» .rect)
 
@@ -144,9 +187,26 @@ weight (OffState true) = 3
 weight (OffState false) = 1
 weight Done = 0
 
--- an answer takes one of them, or bytes of the message; w is the weight before it
-abbrev pub Keeps : Config → ℕ → ℕ → ℕ → NextPage → Type 0
-Keeps c all at w (NextOn p d n) = Sound c all p × (2 * at + weight (p .«page_state») + 1 ≤ 2 * p .at + w) × (n ≤ all)
-Keeps c all at w (NextOff p d) = Sound c all p × (2 * at + weight (p .«page_state») + 1 ≤ 2 * p .at + w)
-Keeps c all at w NextNone = Unit {0}
-Keeps c all at w (NextRefused r) = Unit {0}
+-- what is said of an answer and of where the next one comes from, unless it is the end or a refusal
+abbrev pub IfShown : (Pages → PageShown → Type 0) → NextPage → Type 0
+IfShown P (NextShown p x) = P p x
+IfShown P NextNone = Unit {0}
+IfShown P (NextRefused r) = Unit {0}
+
+-- an answer takes one of them, or bytes of the message, of which there are all; at is the place and w the weight before it
+pub record Advances (c : Config) (all at w : ℕ) (p : Pages) (x : PageShown) : Type 0 where
+  pub stands : InMessage c all p
+  pub less : 2 * at + weight (p .«page_state») + 1 ≤ 2 * p .at + w
+  pub few : x .count ≤ all
+
+-- an answer can be read
+pub record NextAsked (file : List ℕ) (table : SignFile) (msg : List ℕ) (p : Pages) (rows out : List ℕ) : Type 0 where
+  pub ready : Ready file table msg rows out
+  pub stands : InMessage (table .config) (length msg) p
+
+-- it was, in the page state x, and is r; rows and out were there before it, and rows′ and out′ are after it
+pub record NextRead (file : List ℕ) (table : SignFile) (msg : List ℕ) (p : Pages) (rows out rows′ out′ : List ℕ) (x : PageState) (r : NextPage) : Type 0 where
+  pub ends : todoBy (boardIn file msg (table .config)) msg p x ≡ nextTold (boardIn file msg (table .config)) msg out′ r
+  pub next : IfShown (Advances (table .config) (length msg) (p .at) (weight x)) r
+  pub rowed : length rows′ ≡ length rows
+  pub room : length out′ ≡ length out

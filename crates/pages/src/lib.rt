@@ -1,30 +1,28 @@
 // The pages of a message, one answer after the other, as the Rust's iterator `Pages` gives them.
 ghost use mathlib.Core.Path.{_≡_};
 ghost use mathlib.Core.Bool.{true};
-ghost use mathlib.Core.List.{[], _++_};
-ghost use mathlib.Core.Option.{none};
-ghost use Prim.Native.Nat.{ℕ, _+_, _*_, _≤_, _<_};
-ghost use lib.ListN.{length};
-ghost use Rattle.page.specs.Scan.{itemsFrom};
-ghost use Rattle.rows.specs.Rows.{rowsOf, spansOf};
-ghost use Rattle.place.specs.Placed.{smallFaults, rowsFault, rowsRecords};
-ghost use Rattle.meter.specs.Gauges.{Opened};
-ghost use Rattle.pass.specs.Pass.{Inside, entriesOf, endingOf, told};
-ghost use Rattle.pages.specs.Pages.{boardIn, orRefused, placedEnding, Written, Fits, run, tooMany, lastOf, turned, pageTold, PageFits, shownBy, offBy, firstOf, todo, nextTold, Sound, weight, Keeps};
-use layout::Rect;
+ghost use Rattle.pages.specs.Pages.{RenderAsked, PassRendered, tooMany, lastOf, pageDone, PageRendered, stateAfter, shownBy, offBy, firstOf, NextAsked, NextRead};
 use layout::RenderState;
 use page::OptRefusal;
 use page::PageState;
+use pass::How;
+use pass::PassDone;
 use pass::PassEnd;
 use reading::Refusal;
 use records::Config;
 use sign::SignFile;
 
-// How a page ends: a refusal; [np], with the place past it, the count of its records, and the state of the page after it; the message's end.
+// A page that is done: whether [np] ended it, the place past that, the count of its records, and the state of a page after it.
+pub struct PageDone {
+    pub more: bool,
+    pub at: usize,
+    pub count: usize,
+    pub state: RenderState,
+}
+
 pub enum PageEnd {
     Refused(Refusal),
-    Next(usize, usize, RenderState),
-    Last(usize),
+    Ended(PageDone),
 }
 
 // Where the next answer comes from: the place in the message, the state and the times there, and whether a page is on or off.
@@ -36,36 +34,21 @@ pub struct Pages {
     pub page_state: PageState,
 }
 
-// The next answer, and what follows it: on or off with its duration, on also with its count of records; the end; or a refusal.
+// An answer: on or off, its duration, and the count of its records, which is 0 if it is off.
+pub struct PageShown {
+    pub on: bool,
+    pub duration: u16,
+    pub count: usize,
+}
+
+// The next answer and where the one after it comes from; the end; or a refusal.
 pub enum NextPage {
-    On(Pages, u16, usize),
-    Off(Pages, u16),
+    Page(Pages, PageShown),
     End,
     Refused(Refusal),
 }
 
-// Places the n rows of a pass as records from number at on: its refusal, or end, which is how it ended.
-fn place_read(
-    c: Config,
-    rect: Rect,
-    rows: &[u16],
-    n: usize,
-    out: &mut [u16],
-    at: usize,
-    end: PassEnd,
-) -> PassEnd
-    requires { ⌜ (at + n ≤ 2048) × (19 * n ≤ length (now rows)) × (15 * (at + n) ≤ length (now out)) × (rect .left + rect .width ≤ 4096) × (rect .top + rect .height ≤ 4096) × smallFaults (now rows) n ⌝ }
-    ensures { λ r. ⌜ (r ≡ orRefused (rowsFault c rect (rowsOf (now (rows .entry)) n)) end)
-        × (rowsFault c rect (rowsOf (now (rows .entry)) n) ≡ none → spansOf (now (out .exit)) (at + n) ≡ spansOf (now (out .entry)) at ++ rowsRecords c rect (rowsOf (now (rows .entry)) n))
-        × (length (now (out .exit)) ≡ length (now (out .entry))) ⌝ }
-{
-    match place::place_pass(c, rect, rows, n, out, at) {
-        OptRefusal::Some(r) => PassEnd::Refused(r),
-        OptRefusal::None => end,
-    }
-}
-
-// The pass from a place on, read and placed: how it ends, with the count of the page's records.
+// The pass from a place on, read and placed as records from number at on: how it ends, with the count of the page's records.
 fn render_pass(
     file: &[u8],
     table: SignFile,
@@ -76,34 +59,21 @@ fn render_pass(
     out: &mut [u16],
     at: usize,
 ) -> PassEnd
-    requires { ⌜ Opened (now file) table × (length (now msg) ≤ 2048) × (from ≤ length (now msg)) × (at ≤ from) × (19 * length (now msg) ≤ length (now rows)) × (15 * length (now msg) ≤ length (now out)) × Inside (table .config) (st .rect) ⌝ }
-    ensures { λ r. ⌜ (told (now (msg .entry)) r ≡ placedEnding (boardIn (now (file .entry)) (now (msg .entry)) (table .config)) (entriesOf (table .config) (itemsFrom from (now (msg .entry))) st true) (endingOf (table .config) (itemsFrom from (now (msg .entry))) st true))
-        × Written (boardIn (now (file .entry)) (now (msg .entry)) (table .config)) (entriesOf (table .config) (itemsFrom from (now (msg .entry))) st true) (spansOf (now (out .entry)) at) (now (out .exit)) r
-        × Fits (table .config) from (length (now (msg .entry))) r
-        × (length (now (rows .exit)) ≡ length (now (rows .entry))) × (length (now (out .exit)) ≡ length (now (out .entry))) ⌝ }
+    requires { ⌜ RenderAsked (now file) table (now msg) (now rows) (now out) from st at ⌝ }
+    ensures { λ r. ⌜ PassRendered (now (file .entry)) table (now (msg .entry)) from st (now (rows .entry)) (now (out .entry)) at
+        (now (rows .exit)) (now (out .exit)) r ⌝ }
 {
-    let c = table.config;
     match pass::read_pass(file, table, msg, from, st, rows) {
         PassEnd::Refused(r) => PassEnd::Refused(r),
-        PassEnd::Cut(end, n, rect, next) => place_read(
-            c,
-            rect,
-            rows,
-            n,
-            out,
-            at,
-            PassEnd::Cut(end, at + n, rect, next),
-        ),
-        PassEnd::Turn(end, n, rect, s) => place_read(
-            c,
-            rect,
-            rows,
-            n,
-            out,
-            at,
-            PassEnd::Turn(end, at + n, rect, s),
-        ),
-        PassEnd::End(n, rect) => place_read(c, rect, rows, n, out, at, PassEnd::End(at + n, rect)),
+        PassEnd::Ended(d) => {
+            match place::place_pass(table.config, d.rect, rows, d.count, out, at) {
+                OptRefusal::Some(r) => PassEnd::Refused(r),
+                OptRefusal::None => {
+                    let how = d.how;
+                    pass::done(how, d.at, at + d.count, d.rect, d.state)
+                }
+            }
+        }
     }
 }
 
@@ -125,10 +95,22 @@ fn last_pass(p: PassEnd) -> PageEnd
 {
     match p {
         PassEnd::Refused(r) => PageEnd::Refused(r),
-        PassEnd::Cut(_, _, _, _) => too_many(),
-        PassEnd::Turn(_, _, _, _) => too_many(),
-        PassEnd::End(_, _) => too_many(),
+        PassEnd::Ended(_) => too_many(),
     }
+}
+
+// The page whose last pass is done.
+fn done(c: Config, more: bool, d: PassDone) -> PageEnd
+    ensures { λ r. ⌜ r ≡ PageEnd.Ended (pageDone c more d) ⌝ }
+{
+    let last = d.state;
+    let state = last.new_page(c);
+    PageEnd::Ended(PageDone {
+        more,
+        at: d.at,
+        count: d.count,
+        state,
+    })
 }
 
 // The page from a place on: its records stand first in the slice.
@@ -141,10 +123,9 @@ fn render_page(
     rows: &mut [u16],
     out: &mut [u16],
 ) -> PageEnd
-    requires { ⌜ Opened (now file) table × (length (now msg) ≤ 2048) × (from ≤ length (now msg)) × (19 * length (now msg) ≤ length (now rows)) × (15 * length (now msg) ≤ length (now out)) × Inside (table .config) (start .rect) ⌝ }
-    ensures { λ r. ⌜ ((a b : ℕ) → run (boardIn (now (file .entry)) (now (msg .entry)) (table .config)) (itemsFrom from (now (msg .entry))) a b start [] 0 ≡ pageTold (boardIn (now (file .entry)) (now (msg .entry)) (table .config)) (now (msg .entry)) a b (now (out .exit)) r)
-        × PageFits (table .config) from (length (now (msg .entry))) r
-        × (length (now (rows .exit)) ≡ length (now (rows .entry))) × (length (now (out .exit)) ≡ length (now (out .entry))) ⌝ }
+    requires { ⌜ RenderAsked (now file) table (now msg) (now rows) (now out) from start 0 ⌝ }
+    ensures { λ r. ⌜ PageRendered (now (file .entry)) table (now (msg .entry)) from start (now (rows .entry)) (now (out .entry))
+        (now (rows .exit)) (now (out .exit)) r ⌝ }
 {
     let c = table.config;
     let mut at = from;
@@ -156,51 +137,60 @@ fn render_page(
             PassEnd::Refused(r) => {
                 return PageEnd::Refused(r);
             }
-            PassEnd::Cut(end, m, _, next) => {
-                at = end;
-                st = next;
-                n = m;
-                k += 1;
-            }
-            PassEnd::Turn(end, m, _, s) => {
-                return PageEnd::Next(end, m, s.new_page(c));
-            }
-            PassEnd::End(m, _) => {
-                return PageEnd::Last(m);
+            PassEnd::Ended(d) => {
+                let how = d.how;
+                match how {
+                    How::Cut => {
+                        at = d.at;
+                        st = d.state;
+                        n = d.count;
+                        k += 1;
+                    }
+                    How::Turn => {
+                        return done(c, true, d);
+                    }
+                    How::End => {
+                        return done(c, false, d);
+                    }
+                }
             }
         }
     }
     last_pass(render_pass(file, table, msg, at, st, rows, out, n))
 }
 
+// Whether a page is on or off after an on page with the off time off.
+fn state_after(more: bool, off: u16) -> PageState
+    ensures { λ r. ⌜ r ≡ stateAfter more off ⌝ }
+{
+    if more {
+        return PageState::new_page(0 < off);
+    }
+    PageState::done(0 < off)
+}
+
 // The answer of an on page that ended so, and what follows it.
-fn shown(p: Pages, on: u16, off: u16, end: PageEnd) -> NextPage
-    ensures { λ r. ⌜ r ≡ shownBy p on off end ⌝ }
+fn shown(on: u16, off: u16, end: PageEnd) -> NextPage
+    ensures { λ r. ⌜ r ≡ shownBy on off end ⌝ }
 {
     match end {
         PageEnd::Refused(r) => NextPage::Refused(r),
-        PageEnd::Next(at, n, render_state) => {
-            let page_state = PageState::new_page(0 < off);
-            let q = Pages {
-                at,
+        PageEnd::Ended(d) => {
+            let page_state = state_after(d.more, off);
+            let render_state = d.state;
+            let next = Pages {
+                at: d.at,
                 render_state,
                 on,
                 off,
                 page_state,
             };
-            NextPage::On(q, on, n)
-        }
-        PageEnd::Last(n) => {
-            let page_state = PageState::done(0 < off);
-            let render_state = p.render_state;
-            let q = Pages {
-                at: p.at,
-                render_state,
-                on,
-                off,
-                page_state,
+            let page = PageShown {
+                on: true,
+                duration: on,
+                count: d.count,
             };
-            NextPage::On(q, on, n)
+            NextPage::Page(next, page)
         }
     }
 }
@@ -214,10 +204,9 @@ fn render_on_page(
     rows: &mut [u16],
     out: &mut [u16],
 ) -> NextPage
-    requires { ⌜ Opened (now file) table × (length (now msg) ≤ 2048) × Sound (table .config) (length (now msg)) p × (19 * length (now msg) ≤ length (now rows)) × (15 * length (now msg) ≤ length (now out)) ⌝ }
-    ensures { λ r. ⌜ (turned (boardIn (now (file .entry)) (now (msg .entry)) (table .config)) (itemsFrom (p .at) (now (msg .entry))) (p .on) (p .off) (p .«render_state») ≡ nextTold (boardIn (now (file .entry)) (now (msg .entry)) (table .config)) (now (msg .entry)) (now (out .exit)) r)
-        × Keeps (table .config) (length (now (msg .entry))) (p .at) 2 r
-        × (length (now (rows .exit)) ≡ length (now (rows .entry))) × (length (now (out .exit)) ≡ length (now (out .entry))) ⌝ }
+    requires { ⌜ NextAsked (now file) table (now msg) p (now rows) (now out) ⌝ }
+    ensures { λ r. ⌜ NextRead (now (file .entry)) table (now (msg .entry)) p (now (rows .entry)) (now (out .entry))
+        (now (rows .exit)) (now (out .exit)) (PageState.On true) r ⌝ }
 {
     let c = table.config;
     let s = page::scan(msg, p.at, c, p.on, p.off);
@@ -226,7 +215,7 @@ fn render_on_page(
         OptRefusal::Some(r) => NextPage::Refused(r),
         OptRefusal::None => {
             let end = render_page(file, table, msg, p.at, p.render_state, rows, out);
-            shown(p, s.on, s.off, end)
+            shown(s.on, s.off, end)
         }
     }
 }
@@ -238,17 +227,22 @@ fn render_off_page(p: Pages) -> NextPage
     let state = p.page_state;
     let page_state = state.next_state();
     let render_state = p.render_state;
-    let q = Pages {
+    let next = Pages {
         at: p.at,
         render_state,
         on: p.on,
         off: p.off,
         page_state,
     };
-    NextPage::Off(q, p.off)
+    let page = PageShown {
+        on: false,
+        duration: p.off,
+        count: 0,
+    };
+    NextPage::Page(next, page)
 }
 
-// The next answer.
+// The next answer; the records of an on page stand first in the slice.
 pub fn next(
     file: &[u8],
     table: SignFile,
@@ -257,10 +251,9 @@ pub fn next(
     rows: &mut [u16],
     out: &mut [u16],
 ) -> NextPage
-    requires { ⌜ Opened (now file) table × (length (now msg) ≤ 2048) × Sound (table .config) (length (now msg)) p × (19 * length (now msg) ≤ length (now rows)) × (15 * length (now msg) ≤ length (now out)) ⌝ }
-    ensures { λ r. ⌜ (todo (boardIn (now (file .entry)) (now (msg .entry)) (table .config)) (now (msg .entry)) p ≡ nextTold (boardIn (now (file .entry)) (now (msg .entry)) (table .config)) (now (msg .entry)) (now (out .exit)) r)
-        × Keeps (table .config) (length (now (msg .entry))) (p .at) (weight (p .«page_state»)) r
-        × (length (now (rows .exit)) ≡ length (now (rows .entry))) × (length (now (out .exit)) ≡ length (now (out .entry))) ⌝ }
+    requires { ⌜ NextAsked (now file) table (now msg) p (now rows) (now out) ⌝ }
+    ensures { λ r. ⌜ NextRead (now (file .entry)) table (now (msg .entry)) p (now (rows .entry)) (now (out .entry))
+        (now (rows .exit)) (now (out .exit)) (p .«page_state») r ⌝ }
 {
     let state = p.page_state;
     match state {

@@ -49,6 +49,9 @@ module _ (c : Config) (st : RenderState) (blank : Bool) (a n : ℕ) (x y : Said)
   line-same ls true = refl
   line-same ls false = refl
 
+  abbrev refuse : ℕ → Step
+  refuse k = Refuse (refusalAt (at a n x) k)
+
   value-same : (v : Value) → valueStep c st blank (at a n x) v ≡ valueStep c st blank (at a n y) v
   value-same (ColorBackground k) = refl
   value-same (ColorForeground k) = refl
@@ -64,7 +67,8 @@ module _ (c : Config) (st : RenderState) (blank : Bool) (a n : ℕ) (x y : Said)
   value-same (ManufacturerSpecific m p) = refl
   value-same (ManufacturerSpecificEnd m p) = refl
   value-same (MovingText m d t) = refl
-  value-same (NewLine s) = ap (λ (t : Step). pick (above0 (c .«char_height») (given s 0)) (Refuse (refusalAt (at a n x) 6)) (pick (ltb (st .line) 255) t (Refuse (refusalAt (at a n x) 8)))) (line-same s blank)
+  value-same (NewLine s) =
+      ap (λ (t : Step). pick (above0 (c .«char_height») (given s 0)) (refuse 6) (pick (ltb (st .line) 255) t (refuse 8))) (line-same s blank)
   value-same NewPage = refl
   value-same (PageBackground k) = refl
   value-same (PageTime i j) = refl
@@ -139,7 +143,8 @@ bracket-narrow : (s : List ℕ) → shapeOf s ≡ Bracket → Narrow (codes (tak
 unfolding shapeOf
 bracket-narrow s e = go (isPair 91 s) (isPair 93 s) refl refl (eqb (getD s 0 0) 91) (eqb (lastByte s) 93) (eqb (getD s 0 0) 93) e
   where
-    go : (t u : Bool) → isPair 91 s ≡ t → isPair 93 s ≡ u → (x y z : Bool) → pick t Bracket (pick u Bracket (pick x (pick y Tag Stray) (pick z Stray TextShape))) ≡ Bracket → Narrow (codes (take 1 s))
+    go : (t u : Bool) → isPair 91 s ≡ t → isPair 93 s ≡ u → (x y z : Bool)
+        → pick t Bracket (pick u Bracket (pick x (pick y Tag Stray) (pick z Stray TextShape))) ≡ Bracket → Narrow (codes (take 1 s))
     go true u p q x y z d = first-narrow s (inl (pair-first 91 s p))
     go false true p q x y z d = first-narrow s (inr (pair-first 93 s q))
     go false false p q true true z d = absurd (let k : _≡_ {A = ℕ} 0 1 = cc in omega arith)

@@ -1,19 +1,23 @@
 -- The ways on and out of a pass.
-use Prim.Native.Nat.{ℕ, _*_, _+_, _-_, _%_, _≤_, _<_}
+use Prim.Native.Nat.{ℕ, _+_, _-_, _%_, _≤_, _<_}
 use mathlib.Core.Path.{_≡_, refl, sym, _∙_, ap, subst}
 use mathlib.Core.Bool.{Bool, true, _&&_}
 use mathlib.Core.List.{List, [], _∷_, _++_, map, append-assoc, append-nil}
 use native.Mathlib.Omega.{arith}
 use lib.Dec.{leb, ltb, eqb}
 use borrow.Author.Tests.{leb-true}
-use lib.ListN.{length, take, drop, length-drop}
+use lib.ListN.{length, getD, take, drop, length-drop}
+use mir.Val as Val
+use mir.Syntax.{w8}
 use lib.Seq.{length-take-le, take-take}
 use Rattle.token.specs.Token.{Slice, sliceLen}
-use Rattle.token.proofs.Laws.{cuts-next, cuts-end, next-le, next-more}
+use Rattle.token.proofs.Laws.{cuts-next, cuts-end, next-le, next-from, next-more}
 use Rattle.utf8.specs.Utf8.{codes}
+use Rattle.value.specs.declared.Place.{Place}
+use Rattle.value.specs.declared.Value.{Value}
 use Rattle.reading.specs.declared.Refusal.{Refusal}
 use Rattle.reading.specs.declared.Item.{Item as Said}
-use Rattle.reading.specs.declared.Item.the-variants.{Fails}
+use Rattle.reading.specs.declared.Item.the-variants.{Is, Fails}
 use Rattle.reading.specs.Reading.{place, itemOf}
 use Rattle.records.specs.declared.Config.{Config}
 use Rattle.layout.specs.declared.Rect.{Rect}
@@ -22,21 +26,25 @@ use Rattle.layout.specs.declared.Entry.{Entry}
 use Rattle.layout.specs.declared.Step.{Step}
 use Rattle.layout.specs.declared.Step.the-variants.{Refuse, Go, Emit, Cut, Turn}
 use Rattle.layout.specs.Types.{Item, itemAt}
-use Rattle.layout.specs.Read.{unit, rectFits, fits, itemStep, step}
+use Rattle.layout.specs.Read.{refusalAt, unit, rectFits, fits, valueStep, itemStep, step}
 use Rattle.layout.proofs.PassLaws.{and-true}
-use Rattle.layout.proofs.Cover.{Fair as FairStep, step-is-fair}
+use Rattle.layout.proofs.Cover.{Fair as StepWithin, step-is-fair as step-within}
 use Rattle.layout.proofs.Items.{item-within}
 use Rattle.page.specs.Scan.{itemsFrom}
 use Rattle.render.specs.Steps.{itemAt as placed}
 use Rattle.rows.specs.declared.Row.{Row}
 use Rattle.rows.specs.Rows.{rowsOf, putRow}
+use Rattle.rows.specs.Measured.{rowOf}
 use Rattle.rows.proofs.Laws.{rows-put}
-use Rattle.sign.specs.Accepted.{Bytes}
 use Rattle.sign.specs.declared.SignFile.{SignFile}
 use Rattle.sign.proofs.Answer.{Accepts, accepts}
-use Rattle.meter.specs.Gauges.{Opened, Held, Narrow, partCodes, Readable}
-use Rattle.pass.specs.declared.PassEnd.the-variants.{Refused as RefusedBy, Cut as CutBy, Turn as TurnBy, End as EndBy}
-use Rattle.pass.specs.Pass.{ended, entriesBy, entriesOf, endingBy, endingOf, stepAt, told, Rows, Inside, Fair}
+use Rattle.meter.specs.Gauges.{Opened, Held, Narrow, meterIn, partCodes, Readable}
+use Rattle.pass.specs.declared.How.{How}
+use Rattle.pass.specs.declared.How.the-variants.{Cut as ByCut, Turn as ByTurn, End as ByEnd}
+use Rattle.pass.specs.declared.PassDone.{PassDone}
+use Rattle.pass.specs.declared.PassEnd.{PassEnd}
+use Rattle.pass.specs.declared.PassEnd.the-variants.{Refused as RefusedBy, Ended as EndedBy}
+use Rattle.pass.specs.Pass.{Ending, ended, entriesBy, entriesOf, endingBy, endingOf, stepAt, doneBy, told, Inside, tagBytes, Sliced, Steps, Storable, Stored, PassAsked, SpansRead, PassRead}
 use Rattle.pass.proofs.Items.{spoken-narrow, item-same}
 
 -- ---- a rectangle inside the sign
@@ -54,50 +62,74 @@ fits-inside c r e =
 same-inside : (c : Config) (q r : Rect) → q ≡ r → Inside c r → Inside c q
 same-inside c q r e h = rw e h
 
--- an accepted sign's justifications
-pub just-small : (file : List ℕ) (t : SignFile) → Bytes file → Opened file t → (t .config .«line_just» ≤ 4) × (t .config .«page_just» ≤ 4)
-just-small file t b o =
-    let a : Accepts file t = accepts file t (o .0) b (o .1) in
-    (a .good .config .line-to, a .good .config .page-to)
-
 -- ---- the loop
 
 items-end : (at : ℕ) (l : List ℕ) → length l ≤ at → itemsFrom at l ≡ []
 unfolding itemsFrom
 items-end at l h = ap (map itemAt) (cuts-end at l h)
 
--- where the loop stands: f is the row of an entry, first the state it began with
-pub record Stands (f : Entry → Row) (c : Config) (msg : List ℕ) (from : ℕ) (first : RenderState) (R : ℕ) (rows : List ℕ) (st : RenderState) (blank : Bool) (at n : ℕ) : Type 0 where
+-- where the loop stands: first is the state it began with, rows₀ the rows
+pub record Stands (file : List ℕ) (table : SignFile) (msg : List ℕ) (from : ℕ) (first : RenderState) (rows₀ rows : List ℕ)
+    (st : RenderState) (blank : Bool) (at n : ℕ) (widths : List ℕ) (held : ℕ) : Type 0 where
   pub counted : from + n ≤ at
   pub within : at ≤ length msg
-  pub enough : 19 * length msg ≤ R
-  pub room : length rows ≡ R
-  pub inside : Inside c (st .rect)
-  pub ending : endingOf c (itemsFrom at msg) st blank ≡ endingOf c (itemsFrom from msg) first true
-  pub entries : rowsOf rows n ++ map f (entriesOf c (itemsFrom at msg) st blank) ≡ map f (entriesOf c (itemsFrom from msg) first true)
+  pub asked : PassAsked file table msg from first rows₀
+  pub room : length rows ≡ length rows₀
+  pub inside : Inside (table .config) (st .rect)
+  pub ending : endingOf (table .config) (itemsFrom at msg) st blank ≡ endingOf (table .config) (itemsFrom from msg) first true
+  pub entries :
+      rowsOf rows n ++ map (rowOf (meterIn file msg)) (entriesOf (table .config) (itemsFrom at msg) st blank)
+      ≡ map (rowOf (meterIn file msg)) (entriesOf (table .config) (itemsFrom from msg) first true)
+  pub kept : held < 256 → Held file table held widths
 
-module _ (f : Entry → Row) (c : Config) (msg : List ℕ) (from : ℕ) (first : RenderState) (R : ℕ) (rows : List ℕ) (st : RenderState) (blank : Bool) (at n : ℕ)
-    (z : Stands f c msg from first R rows st blank at n) where
+module _ {file : List ℕ} {table : SignFile} {msg : List ℕ} {from : ℕ} {first : RenderState} {rows₀ rows : List ℕ}
+    {st : RenderState} {blank : Bool} {at n : ℕ} {widths : List ℕ} {held : ℕ}
+    (z : Stands file table msg from first rows₀ rows st blank at n widths held) where
+  abbrev c : Config
+  c = table .config
+
+  -- the row of an entry
+  abbrev f : Entry → Row
+  f = rowOf (meterIn file msg)
+
+  -- the whole pass: its ending, and its rows
+  abbrev End : Ending
+  End = endingOf c (itemsFrom from msg) first true
+
+  abbrev All : List Row
+  All = map f (entriesOf c (itemsFrom from msg) first true)
+
+  -- what is promised of the end
+  abbrev Ends : PassEnd → Type 0
+  Ends = PassRead file table msg from first rows₀ rows
+
+  -- the pass is done
+  finish : {v : PassEnd} {d : PassDone} → v ≡ EndedBy d → told msg (EndedBy d) ≡ End → SpansRead file table msg from first rows d → Ends v
+  finish q e s = subst Ends (sym q) (record { ends = e; done = s; room = z .room })
+
   -- the message's end
-  pub pass-end : length msg ≤ at → (told msg (EndBy n (st .rect)) ≡ endingOf c (itemsFrom from msg) first true) × Rows f (entriesOf c (itemsFrom from msg) first true) rows (EndBy n (st .rect)) × Fair c from (length msg) (EndBy n (st .rect)) × (length rows ≡ R)
-  pass-end h = (
-    sym (last-ending (itemsFrom at msg) none-left) ∙ z .ending,
-    sym (append-nil (rowsOf rows n)) ∙ ap (λ (l : List Row). rowsOf rows n ++ l) (sym (last-entries (itemsFrom at msg) none-left)) ∙ z .entries,
-    (omega (arith, z .counted, z .within), z .inside),
-    z .room,
-  )
+  pub pass-end : {v : PassEnd} → length msg ≤ at → v ≡ EndedBy (doneBy ByEnd at n (st .rect) st) → Ends v
+  pass-end h q =
+      finish q (last-ending (itemsFrom at msg) none-left ∙ z .ending)
+      (record {
+        spans = last-entries (itemsFrom at msg) none-left ∙ z .entries;
+        counted = omega (arith, z .counted);
+        within = z .within;
+        inside = z .inside;
+        next = z .inside;
+      })
     where
       none-left : itemsFrom at msg ≡ []
       none-left = items-end at msg h
 
-      last-ending : (its : List Item) → its ≡ [] → endingOf c its st blank ≡ ended (st .rect)
+      last-ending : (its : List Item) → its ≡ [] → ended ByEnd (st .rect) st its ≡ endingOf c its st blank
       last-ending its e = rw e
 
-      last-entries : (its : List Item) → its ≡ [] → map f (entriesOf c its st blank) ≡ []
-      last-entries its e = rw e
+      last-entries : (its : List Item) → its ≡ [] → rowsOf rows n ≡ rowsOf rows n ++ map f (entriesOf c its st blank)
+      last-entries its e = rw e (sym (append-nil (rowsOf rows n)))
 
   -- the slice at the place: r is its end, t what it does
-  module _ (h : at < length msg) (r : ℕ) (e : r ≡ at + sliceLen (drop at msg)) (t : Step) (g : t ≡ stepAt c st blank at (take (r - at) (drop at msg))) where
+  module _ {r : ℕ} {t : Step} (g : Steps (table .config) msg st blank at r t) where
     bytes : List ℕ
     bytes = take (r - at) (drop at msg)
 
@@ -105,10 +137,10 @@ module _ (f : Entry → Row) (c : Config) (msg : List ℕ) (from : ℕ) (first :
     slice = record { start = at; bytes = bytes }
 
     past : r ≤ length msg
-    past = next-le at msg h r e
+    past = next-le at msg (g .more) r (g .next)
 
     more : at < r
-    more = next-more at msg h r e
+    more = next-more at msg (g .more) r (g .next)
 
     size : length bytes ≡ r - at
     unfolding bytes
@@ -116,66 +148,78 @@ module _ (f : Entry → Row) (c : Config) (msg : List ℕ) (from : ℕ) (first :
 
     from-next : itemsFrom at msg ≡ itemAt slice ∷ itemsFrom r msg
     unfolding itemsFrom slice bytes
-    from-next = ap (map itemAt) (cuts-next at msg h r e)
+    from-next = ap (map itemAt) (cuts-next at msg (g .more) r (g .next))
 
     stepped : step c st blank (itemAt slice) ≡ t
     unfolding stepAt slice bytes
-    stepped = sym g
+    stepped = sym (g .does)
 
-    here-ending : endingOf c (itemsFrom at msg) st blank ≡ endingBy st (itemsFrom r msg) (endingOf c (itemsFrom r msg)) t
-    here-ending = ap (λ (l : List Item). endingOf c l st blank) from-next ∙ ap (endingBy st (itemsFrom r msg) (endingOf c (itemsFrom r msg))) stepped
+    -- the ending and the entries from here on, by a step
+    abbrev ending : Step → Ending
+    ending = endingBy st (itemsFrom r msg) (endingOf c (itemsFrom r msg))
 
-    here-entries : entriesOf c (itemsFrom at msg) st blank ≡ entriesBy (entriesOf c (itemsFrom r msg)) t
-    here-entries = ap (λ (l : List Item). entriesOf c l st blank) from-next ∙ ap (entriesBy (entriesOf c (itemsFrom r msg))) stepped
+    abbrev entries : Step → List Entry
+    entries = entriesBy (entriesOf c (itemsFrom r msg))
 
-    fair : FairStep c st (itemAt slice) t
+    here-ending : endingOf c (itemsFrom at msg) st blank ≡ ending t
+    here-ending = ap (λ (l : List Item). endingOf c l st blank) from-next ∙ ap ending stepped
+
+    here-entries : entriesOf c (itemsFrom at msg) st blank ≡ entries t
+    here-entries = ap (λ (l : List Item). entriesOf c l st blank) from-next ∙ ap entries stepped
+
+    lies : StepWithin c st (itemAt slice) t
     unfolding slice
-    fair = subst (FairStep c st (itemAt slice)) stepped (step-is-fair c st blank (itemAt slice) (item-within at bytes (omega (arith, size, more))))
+    lies = subst (StepWithin c st (itemAt slice)) stepped (step-within c st blank (itemAt slice) (item-within at bytes (omega (arith, size, more))))
 
-    ends : (u : Step) → t ≡ u → endingBy st (itemsFrom r msg) (endingOf c (itemsFrom r msg)) u ≡ endingOf c (itemsFrom from msg) first true
-    ends u q = sym (here-ending ∙ ap (endingBy st (itemsFrom r msg) (endingOf c (itemsFrom r msg))) q) ∙ z .ending
+    -- the step is u
+    module _ {u : Step} (q : t ≡ u) where
+      ends-so : ending u ≡ End
+      ends-so = sym (here-ending ∙ ap ending q) ∙ z .ending
 
-    spans : (u : Step) → t ≡ u → rowsOf rows n ++ map f (entriesBy (entriesOf c (itemsFrom r msg)) u) ≡ map f (entriesOf c (itemsFrom from msg) first true)
-    spans u q = ap (λ (l : List Entry). rowsOf rows n ++ map f l) (sym (here-entries ∙ ap (entriesBy (entriesOf c (itemsFrom r msg))) q)) ∙ z .entries
+      spans-so : rowsOf rows n ++ map f (entries u) ≡ All
+      spans-so = ap (λ (l : List Entry). rowsOf rows n ++ map f l) (sym (here-entries ∙ ap entries q)) ∙ z .entries
 
-    fair-of : (u : Step) → t ≡ u → FairStep c st (itemAt slice) u
-    fair-of u q = subst (FairStep c st (itemAt slice)) q fair
+      lies-so : StepWithin c st (itemAt slice) u
+      lies-so = subst (StepWithin c st (itemAt slice)) q lies
 
-    pub pass-refuse : (x : Refusal) → t ≡ Refuse x → (told msg (RefusedBy x) ≡ endingOf c (itemsFrom from msg) first true) × Rows f (entriesOf c (itemsFrom from msg) first true) rows (RefusedBy x) × Fair c from (length msg) (RefusedBy x) × (length rows ≡ R)
-    pass-refuse x q = (ends (Refuse x) q, tt, tt, z .room)
+    pub pass-refuse : {x : Refusal} → t ≡ Refuse x → Ends (RefusedBy x)
+    pass-refuse q = record { ends = ends-so q; done = tt; room = z .room }
 
-    pub pass-cut : (st′ : RenderState) → t ≡ Cut st′ → (told msg (CutBy r n (st .rect) st′) ≡ endingOf c (itemsFrom from msg) first true) × Rows f (entriesOf c (itemsFrom from msg) first true) rows (CutBy r n (st .rect) st′) × Fair c from (length msg) (CutBy r n (st .rect) st′) × (length rows ≡ R)
-    pass-cut st′ q = (
-      ends (Cut st′) q,
-      sym (append-nil (rowsOf rows n)) ∙ spans (Cut st′) q,
-      (omega (arith, z .counted, more), past, z .inside, fits-inside c (st′ .rect) ((fair-of (Cut st′) q) .1)),
-      z .room,
-    )
+    -- [tr] or [np]: no span comes after it
+    closed : {h : How} {st′ : RenderState} → rowsOf rows n ++ [] ≡ All → tagBytes h ≤ 1 → Inside c (st′ .rect)
+        → SpansRead file table msg from first rows (doneBy h r n (st .rect) st′)
+    closed e k i =
+        record {
+          spans = sym (append-nil (rowsOf rows n)) ∙ e;
+          counted = omega (arith, z .counted, more, k);
+          within = past;
+          inside = z .inside;
+          next = i;
+        }
 
-    pub pass-turn : t ≡ Turn → (told msg (TurnBy r n (st .rect) st) ≡ endingOf c (itemsFrom from msg) first true) × Rows f (entriesOf c (itemsFrom from msg) first true) rows (TurnBy r n (st .rect) st) × Fair c from (length msg) (TurnBy r n (st .rect) st) × (length rows ≡ R)
-    pass-turn q = (
-      ends Turn q,
-      sym (append-nil (rowsOf rows n)) ∙ spans Turn q,
-      (omega (arith, z .counted, more), past, z .inside),
-      z .room,
-    )
+    pub pass-cut : {st′ : RenderState} {v : PassEnd} → t ≡ Cut st′ → v ≡ EndedBy (doneBy ByCut r n (st .rect) st′) → Ends v
+    pass-cut {st′} q e = finish e (ends-so q) (closed (spans-so q) (omega arith) (fits-inside c (st′ .rect) ((lies-so q) .1)))
 
-    pub pass-go : (st′ : RenderState) (b : Bool) → t ≡ Go st′ b → Stands f c msg from first R rows st′ b r n
-    pass-go st′ b q =
+    pub pass-turn : {v : PassEnd} → t ≡ Turn → v ≡ EndedBy (doneBy ByTurn r n (st .rect) st) → Ends v
+    pass-turn q e = finish e (ends-so q) (closed (spans-so q) (omega arith) (z .inside))
+
+    pub pass-go : {st′ : RenderState} {b : Bool} → t ≡ Go st′ b → Stands file table msg from first rows₀ rows st′ b r n widths held
+    pass-go {st′} q =
         record {
           counted = omega (arith, z .counted, more);
           within = past;
-          enough = z .enough;
+          asked = z .asked;
           room = z .room;
-          inside = same-inside c (st′ .rect) (st .rect) ((fair-of (Go st′ b) q) .1) (z .inside);
-          ending = ends (Go st′ b) q;
-          entries = spans (Go st′ b) q;
+          inside = same-inside c (st′ .rect) (st .rect) ((lies-so q) .1) (z .inside);
+          ending = ends-so q;
+          entries = spans-so q;
+          kept = z .kept;
         }
 
     -- a span: its row is stored
-    module _ (x : Entry) (st′ : RenderState) (b : Bool) (q : t ≡ Emit x st′ b) (small : length msg ≤ 2048) where
-      spoke : FairStep c st (itemAt slice) (Emit x st′ b)
-      spoke = fair-of (Emit x st′ b) q
+    module _ {x : Entry} {st′ : RenderState} {b : Bool} (q : t ≡ Emit x st′ b) where
+      spoke : StepWithin c st (itemAt slice) (Emit x st′ b)
+      spoke = lies-so q
 
       starts : x .start ≡ at
       unfolding slice
@@ -189,41 +233,80 @@ module _ (f : Entry → Row) (c : Config) (msg : List ℕ) (from : ℕ) (first :
       unfolding slice
       narrow k = spoken-narrow at bytes x (spoke .2 .spoken) k
 
-      pub pass-reads : Readable msg x
+      pass-reads : Readable msg x
       unfolding partCodes bytes
       pass-reads =
           record {
             inside = omega (arith, starts, shorter, past, more);
-            small = small;
+            small = z .asked .small;
             narrow = λ k. rw (starts, ← take-take (x .len) (r - at) (drop at msg) shorter) (narrow k);
           }
 
-      pub pass-room : n < 2048
-      pass-room = omega (arith, z .counted, h)
+      pub pass-stores : Storable file table msg x held widths rows n
+      pass-stores = record { opened = z .asked .opened; reads = pass-reads; kept = z .kept; few = omega (arith, g .more); room = omega (arith, g .more) }
 
-      pub pass-fits : 19 * n + 19 ≤ length rows
-      pass-fits = omega (arith, z .counted, h, z .enough, z .room)
+      -- the rows from here on
+      abbrev later : List Row
+      later = map f (entriesOf c (itemsFrom r msg) st′ b)
 
-      pub pass-emit : (row : Row) → row ≡ f x → row .line < 256 → (m : List ℕ) → m ≡ putRow rows n row → length m ≡ length rows → Stands f c msg from first R m st′ b r (n + 1)
-      pass-emit row p k m d l =
+      pub pass-emit : {widths′ rows′ : List ℕ} {held′ : ℕ} → Stored file table msg x rows n widths′ rows′ held′
+          → Stands file table msg from first rows₀ rows′ st′ b r (n + 1) widths′ held′
+      pass-emit w =
           record {
             counted = omega (arith, z .counted, more);
             within = past;
-            enough = z .enough;
-            room = l ∙ z .room;
+            asked = z .asked;
+            room = w .room ∙ z .room;
             inside = same-inside c (st′ .rect) (st .rect) (spoke .1) (z .inside);
-            ending = ends (Emit x st′ b) q;
+            ending = ends-so q;
             entries =
-                ap (λ (y : List ℕ). rowsOf y (n + 1) ++ map f (entriesOf c (itemsFrom r msg) st′ b)) d
-                ∙ ap (λ (y : List Row). y ++ map f (entriesOf c (itemsFrom r msg) st′ b)) (rows-put rows n row pass-fits k ∙ ap (λ (y : Row). rowsOf rows n ++ (y ∷ [])) p)
-                ∙ append-assoc (rowsOf rows n) (f x ∷ []) (map f (entriesOf c (itemsFrom r msg) st′ b))
-                ∙ spans (Emit x st′ b) q;
+                ap (λ (y : List ℕ). rowsOf y (n + 1) ++ later) (w .row)
+                ∙ ap (λ (y : List Row). y ++ later) (rows-put rows n (f x) (omega (arith, pass-stores .room)) (w .line))
+                ∙ append-assoc (rowsOf rows n) (f x ∷ []) later
+                ∙ spans-so q;
+            kept = λ y. rw (w .font) (w .kept);
           }
 
--- where the loop begins
-pub pass-start : (f : Entry → Row) (c : Config) (msg : List ℕ) (from : ℕ) (first : RenderState) (rows : List ℕ) → from ≤ length msg → 19 * length msg ≤ length rows → Inside c (first .rect) → Stands f c msg from first (length rows) rows first true from 0
-unfolding rowsOf
-pass-start f c msg from first rows h l i = record { counted = omega arith; within = h; enough = l; room = refl; inside = i; ending = refl; entries = refl }
+module _ {file : List ℕ} {table : SignFile} {msg : List ℕ} {from : ℕ} {first : RenderState} {rows : List ℕ}
+    (asked : PassAsked file table msg from first rows) where
+  -- where the loop begins
+  pub pass-start : {widths : List ℕ} → Stands file table msg from first rows rows first true from 0 widths 256
+  unfolding rowsOf
+  pass-start =
+      record {
+        counted = omega arith;
+        within = asked .within;
+        asked = asked;
+        room = refl;
+        inside = asked .inside;
+        ending = refl;
+        entries = refl;
+        kept = λ h. absurd (omega arith);
+      }
+
+  -- the slice at a place
+  pub pass-asks : ((i : ℕ) → Val.Fits w8 (getD file i 0)) → {at r : ℕ} → at < length msg → r ≡ at + sliceLen (drop at msg) → Sliced (table .config) msg at r
+  pass-asks b {at} {r} h e =
+      let o : Opened file table = asked .opened in
+      let a : Accepts file table = accepts file table (o .0) (λ i. omega (arith, b i)) (o .1) in
+      record {
+        more = h;
+        next = e;
+        forward = next-from at msg h r e;
+        within = next-le at msg h r e;
+        small = asked .small;
+        lines = a .good .config .line-to;
+        pages = a .good .config .page-to;
+      }
+
+-- ---- a span's row
+
+pub stored-by : {file : List ℕ} {table : SignFile} {msg : List ℕ} {e : Entry} {rows : List ℕ} {n : ℕ} {widths′ rows′ : List ℕ} {held′ : ℕ} {row : Row}
+    → row ≡ rowOf (meterIn file msg) e → row .line < 256 → rows′ ≡ putRow rows n row → length rows′ ≡ length rows
+    → held′ ≡ e .state .font → Held file table (e .state .font) widths′
+    → Stored file table msg e rows n widths′ rows′ held′
+stored-by {rows = rows} {n = n} p k d l q w =
+    record { row = d ∙ ap (putRow rows n) p; line = subst (λ (y : Row). y .line < 256) p k; font = q; kept = w; room = l }
 
 -- ---- the widths of a font
 
@@ -233,14 +316,32 @@ module _ (file : List ℕ) (t : SignFile) (font r : ℕ) (e : r ≡ font) (width
       let d : held ≡ font = q ∙ e in
       subst (λ (n : ℕ). Held file t n widths) d (h (rw d b))
 
-  pub held-next : Held file t font widths → r < 256 → Held file t r widths
-  held-next h b = rw e h
-
 -- ---- a step
 
-pub step-said : (c : Config) (st : RenderState) (blank : Bool) (at n : ℕ) (l : List ℕ) (x : Said) (t : Step) → x ≡ itemOf at l → n ≡ length l → t ≡ itemStep c st blank (placed (place at n)) x → t ≡ stepAt c st blank at l
+-- of an item that is a value, and of one that fails
+module _ (c : Config) (st : RenderState) (blank : Bool) (p : Place) {item : Said} where
+  pub step-value : {v : Value} {r : Step} → item ≡ Is v → r ≡ valueStep c st blank (placed p) v → r ≡ itemStep c st blank (placed p) item
+  step-value q e = rw q e
+
+  pub step-fails : {n : ℕ} → item ≡ Fails n → Refuse (refusalAt (placed p) n) ≡ itemStep c st blank (placed p) item
+  step-fails q = rw q
+
+step-said : (c : Config) (st : RenderState) (blank : Bool) (at n : ℕ) (l : List ℕ) (x : Said) (t : Step)
+    → x ≡ itemOf at l → n ≡ length l → t ≡ itemStep c st blank (placed (place at n)) x → t ≡ stepAt c st blank at l
 unfolding stepAt step
-step-said c st blank at n l x t p q r = r ∙ ap (λ (k : ℕ). itemStep c st blank (placed (place at k)) x) q ∙ item-same c st blank at (length l) (Fails 0) x x ∙ here
+step-said c st blank at n l x t p q r =
+    r ∙ ap (λ (k : ℕ). itemStep c st blank (placed (place at k)) x) q ∙ item-same c st blank at (length l) (Fails 0) x x ∙ here
   where
-    here : itemStep c st blank (record { start = at; len = length l; says = x }) x ≡ itemStep c st blank (record { start = at; len = length l; says = itemOf at l }) (itemOf at l)
-    here = ap (λ (y : Said). itemStep c st blank (record { start = at; len = length l; says = y }) y) p
+    -- the slice as an item that says y
+    saying : Said → Item
+    saying y = record { start = at; len = length l; says = y }
+
+    here : itemStep c st blank (saying x) x ≡ itemStep c st blank (saying (itemOf at l)) (itemOf at l)
+    here = ap (λ (y : Said). itemStep c st blank (saying y) y) p
+
+pub step-is : {c : Config} {msg : List ℕ} {st : RenderState} {blank : Bool} {at end : ℕ} {x : Said} {t : Step} → Sliced c msg at end
+    → x ≡ itemOf at (take (end - at) (drop at msg)) → t ≡ itemStep c st blank (placed (place at (length (take (end - at) (drop at msg))))) x
+    → Steps c msg st blank at end t
+step-is {c} {msg} {st} {blank} {at} {end} {x} {t} h p r =
+    let s : List ℕ = take (end - at) (drop at msg) in
+    record { more = h .more; next = h .next; does = step-said c st blank at (length s) s x t p refl r }

@@ -23,7 +23,8 @@ module _ (c : Config) (a b : ℕ) where
   follow-pass st acc its (Cut st′) h = rw (append-nil acc)
   follow-pass st acc its Turn h = rw (append-nil acc)
 
-  read-from : (its : List Item) (st : RenderState) (bl : Bool) (acc : List Entry) → read c its a b st bl acc ≡ eventsBy c a b (acc ++ entriesOf c its st bl) (endingOf c its st bl)
+  read-from : (its : List Item) (st : RenderState) (bl : Bool) (acc : List Entry)
+      → read c its a b st bl acc ≡ eventsBy c a b (acc ++ entriesOf c its st bl) (endingOf c its st bl)
   read-from [] st bl acc = rw (append-nil acc)
   read-from (it ∷ its) st bl acc = follow-pass st acc its (step c st bl it) (λ st′ bl′ l. read-from its st′ bl′ l)
 

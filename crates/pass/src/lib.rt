@@ -1,14 +1,11 @@
 // Reading a pass: the values of a message up to [tr], [np] or the end, into rows of measured spans.
 ghost use mathlib.Core.Path.{_≡_};
-ghost use mathlib.Core.Bool.{true};
-ghost use Prim.Native.Nat.{_+_, _*_, _-_, _≤_, _<_};
-ghost use lib.ListN.{length, take, drop};
+ghost use Prim.Native.Nat.{_≤_, _<_};
 ghost use Rattle.layout.specs.Read.{itemStep};
-ghost use Rattle.page.specs.Scan.{itemsFrom};
 ghost use Rattle.render.specs.Steps.{itemAt};
-ghost use Rattle.rows.specs.Measured.{rowOf};
-ghost use Rattle.meter.specs.Gauges.{Opened, Held, meterIn};
-ghost use Rattle.pass.specs.Pass.{Inside, Fair, stepAt, entriesOf, endingOf, told, Rows};
+ghost use Rattle.meter.specs.Gauges.{Held};
+ghost use Rattle.pass.specs.Pass.{doneBy, Sliced, Steps, Storable, Stored, PassAsked, PassRead};
+use layout::Entry;
 use layout::Rect;
 use layout::RenderState;
 use layout::Step;
@@ -18,13 +15,26 @@ use records::Config;
 use sign::SignFile;
 use value::Place;
 
-// How a pass ends: a refusal; [tr] or [np], with the place past it, the count of its spans, its rectangle, and the state after [tr] or before
-// [np]; the message's end.
+// What ends a pass: [tr], [np] or the message's end.
+pub enum How {
+    Cut,
+    Turn,
+    End,
+}
+
+// A pass that is done: what ended it, the place past that, the count of its spans, its rectangle, and the state after [tr], before [np] or at
+// the message's end.
+pub struct PassDone {
+    pub how: How,
+    pub at: usize,
+    pub count: usize,
+    pub rect: Rect,
+    pub state: RenderState,
+}
+
 pub enum PassEnd {
     Refused(Refusal),
-    Cut(usize, usize, Rect, RenderState),
-    Turn(usize, usize, Rect, RenderState),
-    End(usize, Rect),
+    Ended(PassDone),
 }
 
 // What an item at a place does.
@@ -45,8 +55,8 @@ fn step_by(c: Config, st: RenderState, blank: bool, p: Place, item: Item) -> Ste
 
 // What the slice from a place to its end does.
 fn step_at(msg: &[u8], at: usize, end: usize, c: Config, st: RenderState, blank: bool) -> Step
-    requires { ⌜ (at ≤ end) × (end ≤ length (now msg)) × (length (now msg) ≤ 2048) × (c .«line_just» ≤ 4) × (c .«page_just» ≤ 4) ⌝ }
-    ensures { λ r. ⌜ r ≡ stepAt c st blank at (take (end - at) (drop at (now (msg .entry)))) ⌝ }
+    requires { ⌜ Sliced c (now msg) at end ⌝ }
+    ensures { λ r. ⌜ Steps c (now (msg .entry)) st blank at end r ⌝ }
 {
     let s = &msg[at..end];
     let item = reading::item_of(at, s);
@@ -70,6 +80,38 @@ fn keep(file: &[u8], table: SignFile, font: u8, held: u16, widths: &mut [u16; 25
     wanted
 }
 
+// Stores a span's row, and keeps the widths of its font.
+fn store(
+    file: &[u8],
+    table: SignFile,
+    msg: &[u8],
+    e: Entry,
+    held: u16,
+    widths: &mut [u16; 256],
+    rows: &mut [u16],
+    n: usize,
+) -> u16
+    requires { ⌜ Storable (now file) table (now msg) e held (now widths) (now rows) n ⌝ }
+    ensures { λ r. ⌜ Stored (now (file .entry)) table (now (msg .entry)) e (now (rows .entry)) n (now (widths .exit)) (now (rows .exit)) r ⌝ }
+{
+    let font = keep(file, table, e.state.font, held, widths);
+    rows::put_row(rows, n, meter::row_of(file, table, widths, msg, e));
+    font
+}
+
+// The pass is done.
+pub fn done(how: How, at: usize, count: usize, rect: Rect, state: RenderState) -> PassEnd
+    ensures { λ r. ⌜ r ≡ PassEnd.Ended (doneBy how at count rect state) ⌝ }
+{
+    PassEnd::Ended(PassDone {
+        how,
+        at,
+        count,
+        rect,
+        state,
+    })
+}
+
 // The pass from a place on. Its spans' rows stand first in the slice.
 pub fn read_pass(
     file: &[u8],
@@ -79,11 +121,8 @@ pub fn read_pass(
     start: RenderState,
     rows: &mut [u16],
 ) -> PassEnd
-    requires { ⌜ Opened (now file) table × (length (now msg) ≤ 2048) × (from ≤ length (now msg)) × (19 * length (now msg) ≤ length (now rows)) × Inside (table .config) (start .rect) ⌝ }
-    ensures { λ r. ⌜ (told (now (msg .entry)) r ≡ endingOf (table .config) (itemsFrom from (now (msg .entry))) start true)
-        × Rows (rowOf (meterIn (now (file .entry)) (now (msg .entry)))) (entriesOf (table .config) (itemsFrom from (now (msg .entry))) start true) (now (rows .exit)) r
-        × Fair (table .config) from (length (now (msg .entry))) r
-        × (length (now (rows .exit)) ≡ length (now (rows .entry))) ⌝ }
+    requires { ⌜ PassAsked (now file) table (now msg) from start (now rows) ⌝ }
+    ensures { λ r. ⌜ PassRead (now (file .entry)) table (now (msg .entry)) from start (now (rows .entry)) (now (rows .exit)) r ⌝ }
 {
     let c = table.config;
     let mut st = start;
@@ -104,23 +143,19 @@ pub fn read_pass(
                 at = end;
             }
             Step::Emit(e, next, b) => {
-                held = keep(file, table, e.state.font, held, &mut widths);
-                rows::put_row(rows, n, meter::row_of(file, table, &widths, msg, e));
+                held = store(file, table, msg, e, held, &mut widths, rows, n);
                 st = next;
                 blank = b;
                 at = end;
                 n += 1;
             }
             Step::Cut(next) => {
-                let rect = st.rect;
-                return PassEnd::Cut(end, n, rect, next);
+                return done(How::Cut, end, n, st.rect, next);
             }
             Step::Turn => {
-                let rect = st.rect;
-                return PassEnd::Turn(end, n, rect, st);
+                return done(How::Turn, end, n, st.rect, st);
             }
         }
     }
-    let rect = st.rect;
-    PassEnd::End(n, rect)
+    done(How::End, at, n, st.rect, st)
 }

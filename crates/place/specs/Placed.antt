@@ -1,9 +1,11 @@
 -- Document 01, "Placing", over the measured rows of a pass: the records, and the first of refusals 9 to 14.
-use Prim.Native.Nat.{ℕ, suc, _+_, _-_, _/_, _<_}
+use Prim.Native.Nat.{ℕ, suc, _+_, _-_, _/_, _≤_, _<_}
+use mathlib.Core.Path.{_≡_}
 use mathlib.Core.Bool.{Bool, not, _&&_, _||_}
 use mathlib.Core.Option.{Option, none, some}
-use mathlib.Core.List.{List, [], _∷_, map}
+use mathlib.Core.List.{List, [], _∷_, _++_, map}
 use lib.Dec.{leb, ltb, eqb}
+use lib.ListN.{length}
 use Rattle.base.specs.Pick.{pick}
 use Rattle.reading.specs.declared.Refusal.{Refusal}
 use Rattle.records.specs.declared.Config.{Config}
@@ -12,7 +14,10 @@ use Rattle.layout.specs.declared.Span.{Span}
 use Rattle.layout.specs.Types.{refusal}
 use Rattle.layout.specs.Place.{Line, trunc, orElse, unless, firstFault, placeX, above, below, baseline}
 use Rattle.rows.specs.declared.Row.{Row}
-use Rattle.rows.specs.Rows.{rowAt}
+use Rattle.page.specs.declared.OptRefusal.{OptRefusal}
+use Rattle.page.specs.declared.OptRefusal.the-variants.{None}
+use Rattle.page.specs.Scan.{faultIs}
+use Rattle.rows.specs.Rows.{RowRoom, SpanRoom, rowAt, rowsOf, spansOf}
 use Rattle.rows.specs.Measured.{faultOf}
 use Rattle.across.specs.declared.Sums.{Sums}
 use Rattle.across.specs.Sums.{sums, noneYet}
@@ -109,3 +114,20 @@ module _ (c : Config) (q : Rect) (rs : List Row) where
 
   unfoldable pub rowsRecords : List Span
   rowsRecords = map recordAt rs
+
+-- ---- `place_pass`
+
+-- n rows can be placed in the rectangle q, as records from number at on
+pub record Placeable (q : Rect) (rows : List ℕ) (n : ℕ) (out : List ℕ) (at : ℕ) : Type 0 where
+  pub few : at + n ≤ 2048
+  pub rowed : RowRoom n rows
+  pub room : SpanRoom (at + n) out
+  pub across : q .left + q .width ≤ 4096
+  pub down : q .top + q .height ≤ 4096
+  pub faults : smallFaults rows n
+
+-- they were, or r is their first refusal
+pub record PassPlaced (c : Config) (q : Rect) (rows : List ℕ) (n : ℕ) (out : List ℕ) (at : ℕ) (out′ : List ℕ) (r : OptRefusal) : Type 0 where
+  pub fault : faultIs r ≡ rowsFault c q (rowsOf rows n)
+  pub written : r ≡ None → spansOf out′ (at + n) ≡ spansOf out at ++ rowsRecords c q (rowsOf rows n)
+  pub room : length out′ ≡ length out

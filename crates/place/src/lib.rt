@@ -11,7 +11,7 @@ ghost use Rattle.rows.specs.Rows.{rowsOf, spansOf};
 ghost use Rattle.rows.specs.Measured.{faultOf};
 ghost use Rattle.lines.specs.Lines.{linesIn, linesFrom, fontFaultFrom};
 ghost use Rattle.place.specs.declared.Placed.the-variants.{Refused};
-ghost use Rattle.place.specs.Placed.{smallFaults, goesBackFrom, backRows, standsAt, refusalOf, recordBy, faultWith, recordWith, placedBy, spanFaultAt, rowsFault, rowsRecords};
+ghost use Rattle.place.specs.Placed.{smallFaults, goesBackFrom, backRows, standsAt, refusalOf, recordBy, faultWith, recordWith, placedBy, spanFaultAt, rowsRecords, Placeable, PassPlaced};
 use across::Sums;
 use layout::Rect;
 use layout::Span;
@@ -235,10 +235,8 @@ pub fn place_pass(
     out: &mut [u16],
     at: usize,
 ) -> OptRefusal
-    requires { ⌜ (at + n ≤ 2048) × (19 * n ≤ length (now rows)) × (15 * (at + n) ≤ length (now out)) × (rect .left + rect .width ≤ 4096) × (rect .top + rect .height ≤ 4096) × smallFaults (now rows) n ⌝ }
-    ensures { λ r. ⌜ (faultIs r ≡ rowsFault c rect (rowsOf (now (rows .entry)) n))
-        × (r ≡ None → spansOf (now (out .exit)) (at + n) ≡ spansOf (now (out .entry)) at ++ rowsRecords c rect (rowsOf (now (rows .entry)) n))
-        × (length (now (out .exit)) ≡ length (now (out .entry))) ⌝ }
+    requires { ⌜ Placeable rect (now rows) n (now out) at ⌝ }
+    ensures { λ r. ⌜ PassPlaced c rect (now (rows .entry)) n (now (out .entry)) at (now (out .exit)) r ⌝ }
 {
     match check_justification(rows, n) {
         OptRefusal::Some(f) => OptRefusal::Some(f),

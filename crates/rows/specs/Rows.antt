@@ -1,7 +1,7 @@
 -- Rows of numbers: what a lent slice holds at a place, and what a store makes of it.
-use Prim.Native.Nat.{ℕ, zero, suc, _+_, _*_, _/_, _%_}
+use Prim.Native.Nat.{ℕ, zero, suc, _+_, _*_, _/_, _%_, _≤_}
 use mathlib.Core.List.{List, [], _∷_}
-use lib.ListN.{getD, set}
+use lib.ListN.{length, getD, set}
 use Rattle.layout.specs.declared.Span.{Span}
 use Rattle.rows.specs.declared.Row.{Row}
 
@@ -52,6 +52,10 @@ rowWith l i w =
 unfoldable pub rowAt : List ℕ → ℕ → Row
 rowAt l i = rowWith l i (getD l (19 * i + 17) 0 + 65536 * getD l (19 * i + 18) 0)
 
+-- room for n rows
+abbrev pub RowRoom : ℕ → List ℕ → Type 0
+RowRoom n l = 19 * n ≤ length l
+
 -- the first n rows
 unfoldable pub rowsOf : List ℕ → ℕ → List Row
 rowsOf l n = cells (rowAt l) 0 n
@@ -85,6 +89,10 @@ spanAt l i =
       «rect_width» = getD l (15 * i + 13) 0;
       «rect_height» = getD l (15 * i + 14) 0;
     }
+
+-- room for n spans
+abbrev pub SpanRoom : ℕ → List ℕ → Type 0
+SpanRoom n l = 15 * n ≤ length l
 
 -- the first n spans
 unfoldable pub spansOf : List ℕ → ℕ → List Span

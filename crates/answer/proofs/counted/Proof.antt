@@ -1,5 +1,4 @@
 use Rattle.answer.proofs.Laws.{counted-is}
-use native.Mathlib.Omega.{arith}
 use borrow.Author.Needs.{needs}
 use Rattle.answer.proofs.counted.Statement.{statement}
 use Rattle.answer.proofs.counted.Tie as tie
@@ -10,4 +9,4 @@ counted-spec =
     (λ c κs. search needs)  -- compute-requires
     (λ c κs. search needs)  -- count-of-requires
     (λ c. search needs)  -- same-length
-    (λ c. counted-is _ _ _ _ _ _ (c .before .before .before .compute .ensures .0) _ (c .count-of .ensures) (omega (arith, c .before .before .before .compute .ensures .1, c .before .before .before .compute .ensures .2))))  -- returns
+    (λ c. let a : tie.After-compute = search in let k : tie.After-count-of = search in counted-is (a .compute .ensures) (k .count-of .ensures)))  -- returns

@@ -10,6 +10,8 @@ paged-spec =
     (λ c. search needs)  -- same-length
     (λ c. search needs)  -- returns
     (λ c. search needs)  -- slice-aggregate-numbered-2
-    (λ c κs. let p = c .before .before .before .before .before .before .pre in (p .0, p .1, search needs, p .2))  -- numbered-requires-2
+    (λ c κs.
+    let s : tie.Start = search in
+    record { opened = s .pre .opened; small = s .pre .small; rowed = search needs; room = s .pre .room })  -- numbered-requires-2
     (λ c. search needs)  -- same-length-2
     (λ c. search needs))  -- returns-2

@@ -8,4 +8,4 @@ first-spec =
     (λ c κs. search needs)  -- start-requires
     (λ c κs. search needs)  -- wide16-requires
     (λ c κs. search needs)  -- wide16-requires-2
-    (λ c. rw (c .before .before .start .ensures, c .before .wide16 .ensures .0, c .wide162 .ensures .0)))  -- returns
+    (λ c. cc))  -- returns

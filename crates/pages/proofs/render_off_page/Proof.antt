@@ -6,4 +6,4 @@ pub render-off-page-spec : {M : Type 1} → statement M
 render-off-page-spec =
     tie.close (tie.spec
     (λ c κs. search needs)  -- next-state-requires
-    (λ c. rw (c .before .next-state .ensures)))  -- returns
+    (λ c. cc))  -- returns

@@ -1,5 +1,4 @@
-use mathlib.Core.Path.{refl}
-use Rattle.pass.proofs.Laws.{step-said}
+use Rattle.pass.proofs.Laws.{step-is}
 use borrow.Author.Needs.{needs}
 use Rattle.pass.proofs.step_at.Statement.{statement}
 use Rattle.pass.proofs.step_at.Tie as tie
@@ -14,4 +13,4 @@ step-at-spec =
     (λ c. search needs)  -- cast-t13
     (λ c. search needs)  -- cast-t14
     (λ c κs. search needs)  -- step-by-requires
-    (λ c. step-said _ _ _ _ _ _ _ _ (c .before .item-of .ensures) refl (c .step-by .ensures)))  -- returns
+    (λ c. search step-is))  -- returns

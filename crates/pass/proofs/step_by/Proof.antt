@@ -1,3 +1,4 @@
+use Rattle.pass.proofs.Laws.{step-value, step-fails}
 use borrow.Author.Needs.{needs}
 use Rattle.pass.proofs.step_by.Statement.{statement}
 use Rattle.pass.proofs.step_by.Tie as tie
@@ -8,5 +9,5 @@ step-by-spec =
     (λ c. search needs)  -- enum-known-item
     (λ c κs. search needs)  -- step-requires
     (λ c. search needs)  -- enum-known-item-2
-    (λ c. rw (c .before .before .item .given .1) (c .step .ensures))  -- returns
-    (λ c. rw (c .before .item2 .given .1)))  -- returns-2
+    (λ c. search step-value)  -- returns
+    (λ c. search step-fails))  -- returns-2
