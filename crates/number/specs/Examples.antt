@@ -28,4 +28,4 @@ pub record Examples : Type 0 where
 
 pub examples : Examples
 unfolding digitOf readFrom readDigits readNumber versionId
-examples = record { empty = refl; lone-plus = refl; two-plus = refl; minus = refl; space = refl; zeros = refl; top8 = refl; over8 = refl; top16 = refl; over16 = refl; top32 = refl; over32 = refl; long = refl; hex = refl; over-hex = refl; no-digit = refl; version = refl; three = refl; five = refl }
+examples = search

@@ -11,12 +11,14 @@ use Rattle.token.proofs.Laws.{next-le, next-from}
 use Rattle.reading.specs.declared.Reading.{Reading}
 use Rattle.reading.specs.Reading.{sliceReading, readingAt}
 
-pub slice-way : (l : List ℕ) (at end : ℕ) (r : Reading) → end ≡ at + sliceLen (drop at l) → r ≡ sliceReading at (take (end - at) (drop at l)) → r ≡ readingAt l at
+pub slice-way : (l : List ℕ) (at end : ℕ) (r : Reading) → end ≡ at + sliceLen (drop at l) → r ≡ sliceReading at (take (end - at) (drop at l))
+    → r ≡ readingAt l at
 unfolding readingAt
 slice-way l at end r e p = rw (e, add-sub-cancel-left) at p
 
 -- it ends within the message, so its places have 16 bits
-pub slice-room : (l : List ℕ) (at end : ℕ) → at < length l → length l ≤ 2048 → end ≡ at + sliceLen (drop at l) → at + length (take (end - at) (drop at l)) ≤ 65535
+pub slice-room : (l : List ℕ) (at end : ℕ) → at < length l → length l ≤ 2048 → end ≡ at + sliceLen (drop at l)
+    → at + length (take (end - at) (drop at l)) ≤ 65535
 slice-room l at end h k e =
     let b : end ≤ length l = next-le at l h end e in
     let n : end - at ≤ length (drop at l) = omega (arith, length-drop at l) in

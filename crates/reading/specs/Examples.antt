@@ -81,5 +81,11 @@ pub record Examples : Type 0 where
   pub no-text : fails "[mvcl1,1,1]" 11 6
 
 pub examples : Examples
-unfolding digitOf readFrom readDigits readNumber versionId first extra low high fits after wellFormedFrom wellFormed codeOf codesFrom codes allLatin1 continues insideCharacter plainLen tagLen restLen sliceLen isPair lastByte shapeOf lower upTo pastSep holds number optional xy rectangle color readOptional optionalVersion justification readXy rectangleOf readRgb rgbOf colorOf newLine newPage font justificationLine justificationPage pageTime pageBackground colorForeground colorBackground fourOf fifth colorRectangle lastFour textRectangle spacingCharacter hexadecimalCharacter flashOn flashOff flashTime field pointOf graphicAt graphic spacingCharacterEnd flashEnd textOf manufacturerSpecific manufacturerSpecificEnd movement movementParts movementOf moved movingTextMode movingTextLinear movingText endName firstName nameBy nameOf tagValue tagItem textItem itemOf sliceReading readingAt reading
-examples = record { empty = refl; past = refl; second = refl; inner = refl; e-acute = refl; inside = refl; cut = refl; euro = refl; stray = refl; brackets = refl; unclosed = refl; nothing = refl; feed = refl; no-number = refl; lines = refl; two-digits = refl; font-0 = refl; font-id = refl; font-short = refl; no-code = refl; code = refl; line-just = refl; plus-just = refl; times = refl; over = refl; spacing = refl; wide = refl; rect = refl; rect-0 = refl; rect-five = refl; fore = refl; two-colors = refl; color-rect = refl; field-0 = refl; field-13 = refl; field-14 = refl; graphic-1 = refl; graphic-2 = refl; graphic-3 = refl; graphic-empty = refl; flash = refl; flash-off = refl; specific = refl; moving = refl; no-text = refl }
+unfolding digitOf readFrom readDigits readNumber versionId first extra low high fits after wellFormedFrom wellFormed codeOf codesFrom codes allLatin1
+    continues insideCharacter plainLen tagLen restLen sliceLen isPair lastByte shapeOf lower upTo pastSep holds number optional xy rectangle color
+    readOptional optionalVersion justification readXy rectangleOf readRgb rgbOf colorOf newLine newPage font justificationLine justificationPage
+    pageTime pageBackground colorForeground colorBackground fourOf fifth colorRectangle lastFour textRectangle spacingCharacter hexadecimalCharacter
+    flashOn flashOff flashTime field pointOf graphicAt graphic spacingCharacterEnd flashEnd textOf manufacturerSpecific manufacturerSpecificEnd movement
+    movementParts movementOf moved movingTextMode movingTextLinear movingText endName firstName nameBy nameOf tagValue tagItem textItem itemOf
+    sliceReading readingAt reading
+examples = search

@@ -205,7 +205,9 @@ module _ (file : List ℕ) (at kind start end : ℕ) (e : headAt file at ≡ Who
   unfolding headAt
   told = go (whole (drop at file)) refl e
     where
-      go : (t : Bool) → whole (drop at file) ≡ t → pick t (Whole (kindOf (drop at file)) (at + 4) (at + 4 + bodyLen (drop at file))) Short ≡ Whole kind start end → (whole (drop at file) ≡ true) × (kindOf (drop at file) ≡ kind) × (at + 4 ≡ start) × (at + 4 + bodyLen (drop at file) ≡ end)
+      go : (t : Bool) → whole (drop at file) ≡ t
+          → pick t (Whole (kindOf (drop at file)) (at + 4) (at + 4 + bodyLen (drop at file))) Short ≡ Whole kind start end
+          → (whole (drop at file) ≡ true) × (kindOf (drop at file) ≡ kind) × (at + 4 ≡ start) × (at + 4 + bodyLen (drop at file) ≡ end)
       go true p q = (p, (cc), (cc), (cc))
       go false p q = never (let z : _≡_ {A = ℕ} 0 1 = cc in z)
 
@@ -236,7 +238,8 @@ cut-head at [] h = absurd (omega arith)
 cut-head at (b ∷ l) h = rw (add-suc at (restLen (b ∷ l)), ← suc-add at (restLen (b ∷ l)), skips (suc at) (restLen (b ∷ l)) l)
 
 -- a record that is whole: what stands in it, and the records past it
-pub pieces-next : (file : List ℕ) (at kind start end : ℕ) → headAt file at ≡ Whole kind start end → piecesAt file at ≡ Record at kind (take (end - start) (drop start file)) ∷ piecesAt file end
+pub pieces-next : (file : List ℕ) (at kind start end : ℕ) → headAt file at ≡ Whole kind start end
+    → piecesAt file at ≡ Record at kind (take (end - start) (drop start file)) ∷ piecesAt file end
 unfolding piecesAt
 pieces-next file at kind start end e = cut-head at l some ∙ both
   where
@@ -261,7 +264,8 @@ pieces-next file at kind start end e = cut-head at l some ∙ both
     here : firstPiece at l ≡ Record at kind (take (end - start) (drop start file))
     here = unfold firstPiece in rw (is .0, is .1, size, drop-drop 4 at file, is .2)
 
-    both : firstPiece at l ∷ cutFrom (at + suc (restLen l)) 0 (drop (suc (restLen l)) l) ≡ Record at kind (take (end - start) (drop start file)) ∷ cutFrom end 0 (drop end file)
+    both : firstPiece at l ∷ cutFrom (at + suc (restLen l)) 0 (drop (suc (restLen l)) l) ≡ Record at kind (take (end - start) (drop start file))
+        ∷ cutFrom end 0 (drop end file)
     both = rw (here, len, drop-drop (4 + bodyLen l) at file, past)
 
 -- a record that is cut short is the last

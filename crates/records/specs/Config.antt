@@ -13,7 +13,19 @@ use Rattle.records.specs.declared.First.the-variants.{Is, Refused}
 -- "width and height in pixels (16 bits each ..), then one byte each for character width, character height, default font ..,
 -- line justification .., page justification .., on time, off time .., then the supported tags (32 bits ..)"
 abbrev pub configWith : ℕ → ℕ → ℕ → List ℕ → Config
-configWith w h t body = record { width = w; height = h; «char_width» = getD body 4 0; «char_height» = getD body 5 0; font = getD body 6 0; «line_just» = getD body 7 0; «page_just» = getD body 8 0; «on_time» = getD body 9 0; «off_time» = getD body 10 0; tags = t }
+configWith w h t body =
+    record {
+      width = w;
+      height = h;
+      «char_width» = getD body 4 0;
+      «char_height» = getD body 5 0;
+      font = getD body 6 0;
+      «line_just» = getD body 7 0;
+      «page_just» = getD body 8 0;
+      «on_time» = getD body 9 0;
+      «off_time» = getD body 10 0;
+      tags = t;
+    }
 
 unfoldable pub configOf : List ℕ → Config
 configOf body = configWith (littleAt 2 0 body) (littleAt 2 2 body) (littleAt 4 11 body) body

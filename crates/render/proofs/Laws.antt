@@ -22,14 +22,17 @@ use Rattle.layout.specs.Types.{Item, refusal}
 use Rattle.layout.specs.Read.{entryOf, withSpan, withLine, spanStep, lineStep, justified, goIf, extent, unit, fits, rectOf, rectFits, withRect, rectStep}
 use Rattle.render.specs.Steps.{itemAt}
 
-pub span-on : (p : Place) (st : RenderState) (e : Entry) (r : RenderState) → st .span < 255 → r ≡ withSpan st (st .span + 1) → Emit e r false ≡ spanStep (itemAt p) st e
+pub span-on : (p : Place) (st : RenderState) (e : Entry) (r : RenderState) → st .span < 255 → r ≡ withSpan st (st .span + 1)
+    → Emit e r false ≡ spanStep (itemAt p) st e
 span-on p st e r h k = rw (k, add-one) (search picks depth 4)
 
-pub span-off : (p : Place) (st : RenderState) (e : Entry) (r : Step) → 255 ≤ st .span → r ≡ Refuse (refusal 8 (p .start) (p .len) 0) → r ≡ spanStep (itemAt p) st e
+pub span-off : (p : Place) (st : RenderState) (e : Entry) (r : Step) → 255 ≤ st .span → r ≡ Refuse (refusal 8 (p .start) (p .len) 0)
+    → r ≡ spanStep (itemAt p) st e
 span-off p st e r h k = search picks depth 4
 
 -- an answer of `line_step`
-pub line-blank : (p : Place) (st r : RenderState) (ls : OptNum) (b : Bool) → r ≡ withLine st ls → b ≡ true → Emit (entryOf 2 (p .start) 0 0 st) r true ≡ lineStep (itemAt p) st ls b
+pub line-blank : (p : Place) (st r : RenderState) (ls : OptNum) (b : Bool) → r ≡ withLine st ls → b ≡ true
+    → Emit (entryOf 2 (p .start) 0 0 st) r true ≡ lineStep (itemAt p) st ls b
 line-blank p st r ls b k e = rw (e, k)
 
 pub line-full : (p : Place) (st r : RenderState) (ls : OptNum) (b : Bool) → r ≡ withLine st ls → b ≡ false → Go r true ≡ lineStep (itemAt p) st ls b

@@ -3,14 +3,13 @@ use layout::Answer;
 use layout::Span;
 use reading::Refusal;
 use replay::Input;
-use vectors::Bytes;
-use vectors::Phase;
-use vectors::Stream;
+use replay::Phase;
+use replay::Stream;
 ghost use mathlib.Core.Path.{_≡_};
 ghost use Prim.Native.Nat.{_≤_};
 ghost use lib.ListN.{length};
-ghost use Rattle.replay_listings.specs.Held.{Held};
-ghost use Rattle.vectors.specs.Text.{Within};
+ghost use Rattle.replay_listings.specs.BothFit.{BothFit};
+ghost use Rattle.replay.specs.Text.{Within};
 
 // The sign file that came last, and the case whose answers are read.
 // len, text: the bytes of the file and of the message. seen: a file came. answer, row: the next answer, and its next record.
@@ -32,7 +31,7 @@ pub struct Check {
 
 // Before any file.
 pub fn none() -> Check
-    ensures { λ r. ⌜ Held r 0 0 ⌝ }
+    ensures { λ r. ⌜ BothFit r 0 0 ⌝ }
 {
     let endings = [0u32; 16];
     Check {
@@ -52,22 +51,22 @@ pub fn none() -> Check
 
 // Whether word k of a line is a number.
 fn has(line: &[u8], k: usize, n: u16) -> bool {
-    vectors::is_number(line, k, n as u64)
+    replay::is_number(line, k, n as u64)
 }
 
 // Whether a line is an on answer with that duration and count.
 fn is_on(line: &[u8], duration: u16, count: u16) -> bool {
-    vectors::words(line) == 3 && has(line, 0, 1) && has(line, 1, duration) && has(line, 2, count)
+    replay::words(line) == 3 && has(line, 0, 1) && has(line, 1, duration) && has(line, 2, count)
 }
 
 // Whether a line is that kind of answer with one number.
 fn is_short(line: &[u8], kind: u16, n: u16) -> bool {
-    vectors::words(line) == 2 && has(line, 0, kind) && has(line, 1, n)
+    replay::words(line) == 2 && has(line, 0, kind) && has(line, 1, n)
 }
 
 // Whether a line is a refusal.
 fn is_refusal(line: &[u8], r: Refusal) -> bool {
-    vectors::words(line) == 5
+    replay::words(line) == 5
         && has(line, 0, 4)
         && has(line, 1, r.number as u16)
         && has(line, 2, r.start)
@@ -116,7 +115,7 @@ fn is_record(line: &[u8], row: usize, out: &[u16]) -> bool
         return false;
     }
     let s = rows::span_at(out, row);
-    vectors::words(line) == 15 && is_placed(line, s) && is_shown(line, s)
+    replay::words(line) == 15 && is_placed(line, s) && is_shown(line, s)
 }
 
 // The number of a refusal, 0 of another answer.
@@ -144,7 +143,7 @@ fn lists(phase: Phase) -> bool {
 impl Check {
     // After a line that is not of the format.
     fn bad(mut self) -> Check
-        ensures { λ r. ⌜ Held r (self .len) (self .text) ⌝ }
+        ensures { λ r. ⌜ BothFit r (self .len) (self .text) ⌝ }
     {
         self.good = false;
         self
@@ -153,12 +152,13 @@ impl Check {
     // At an S line.
     fn with_file(mut self, line: &[u8], file: &mut [u8]) -> Check
         requires { ⌜ self .len ≤ length (now file) ⌝ }
-        ensures { λ r. ⌜ Held r (length (now (file .exit))) (self .text) ⌝ }
+        ensures { λ r. ⌜ BothFit r (length (now (file .exit))) (self .text) ⌝ }
     {
-        let Bytes::Are(len) = vectors::bytes_at(line, 1, file) else {
+        let bytes = replay::bytes_at(line, 1, file);
+        if !bytes.good {
             return self.bad();
-        };
-        self.len = len;
+        }
+        self.len = bytes.len;
         self.seen = true;
         self
     }
@@ -166,12 +166,13 @@ impl Check {
     // At an L line.
     fn with_message(mut self, line: &[u8], msg: &mut [u8]) -> Check
         requires { ⌜ self .text ≤ length (now msg) ⌝ }
-        ensures { λ r. ⌜ Held r (self .len) (length (now (msg .exit))) ⌝ }
+        ensures { λ r. ⌜ BothFit r (self .len) (length (now (msg .exit))) ⌝ }
     {
-        let Bytes::Are(text) = vectors::bytes_at(line, 1, msg) else {
+        let bytes = replay::bytes_at(line, 1, msg);
+        if !bytes.good {
             return self.bad();
-        };
-        self.text = text;
+        }
+        self.text = bytes.len;
         self.answer = 0;
         self.ending = 0;
         self.other = 0;
@@ -181,7 +182,7 @@ impl Check {
 
     // After the line with that number, which agrees, or not.
     fn after(mut self, agree: bool, number: u32) -> Check
-        ensures { λ r. ⌜ Held r (self .len) (self .text) ⌝ }
+        ensures { λ r. ⌜ BothFit r (self .len) (self .text) ⌝ }
     {
         if agree {
             return self;
@@ -202,7 +203,7 @@ impl Check {
         out: &mut [u16],
     ) -> Check
         requires { ⌜ length (now out) ≡ 30720 ⌝ }
-        ensures { λ r. ⌜ Held r (self .len) (self .text) × (length (now (out .exit)) ≡ 30720) ⌝ }
+        ensures { λ r. ⌜ BothFit r (self .len) (self .text) × (length (now (out .exit)) ≡ 30720) ⌝ }
     {
         let a = answer::compute(file, msg, self.answer, 1400, out);
         self.answer = next_place(self.answer);
@@ -214,7 +215,7 @@ impl Check {
     // After a record.
     fn recorded(mut self, line: &[u8], number: u32, out: &[u16]) -> Check
         requires { ⌜ length (now out) ≡ 30720 ⌝ }
-        ensures { λ r. ⌜ Held r (self .len) (self .text) ⌝ }
+        ensures { λ r. ⌜ BothFit r (self .len) (self .text) ⌝ }
     {
         let row = self.row;
         self.row = next_place(row);
@@ -232,7 +233,7 @@ impl Check {
         out: &mut [u16],
     ) -> Check
         requires { ⌜ length (now out) ≡ 30720 ⌝ }
-        ensures { λ r. ⌜ Held r (self .len) (self .text) × (length (now (out .exit)) ≡ 30720) ⌝ }
+        ensures { λ r. ⌜ BothFit r (self .len) (self .text) × (length (now (out .exit)) ≡ 30720) ⌝ }
     {
         if let Phase::Listing = phase {
             return self.answered(line, number, file, msg, out);
@@ -242,13 +243,13 @@ impl Check {
 
     // After a line outside of listings.
     fn opened(self, line: &[u8], s: Stream, file: &mut [u8], msg: &mut [u8]) -> Check
-        requires { ⌜ Held self (length (now file)) (length (now msg)) ⌝ }
-        ensures { λ r. ⌜ Held r (length (now (file .exit))) (length (now (msg .exit))) ⌝ }
+        requires { ⌜ BothFit self (length (now file)) (length (now msg)) ⌝ }
+        ensures { λ r. ⌜ BothFit r (length (now (file .exit))) (length (now (msg .exit))) ⌝ }
     {
         if s.answers() {
             return self;
         }
-        let letter = vectors::letter(line);
+        let letter = replay::letter(line);
         if letter == b'S' {
             return self.with_file(line, file);
         }
@@ -268,8 +269,8 @@ impl Check {
         msg: &mut [u8],
         out: &mut [u16],
     ) -> Check
-        requires { ⌜ Held self (length (now file)) (length (now msg)) × (length (now out) ≡ 30720) ⌝ }
-        ensures { λ r. ⌜ Held r (length (now (file .exit))) (length (now (msg .exit))) × (length (now (out .exit)) ≡ 30720) ⌝ }
+        requires { ⌜ BothFit self (length (now file)) (length (now msg)) × (length (now out) ≡ 30720) ⌝ }
+        ensures { λ r. ⌜ BothFit r (length (now (file .exit))) (length (now (msg .exit))) × (length (now (out .exit)) ≡ 30720) ⌝ }
     {
         let phase = s.phase;
         if lists(phase) {
@@ -282,21 +283,21 @@ impl Check {
 
     // A case that agrees is counted by how it ended.
     fn agreeing(mut self) -> Check
-        ensures { λ r. ⌜ Held r (self .len) (self .text) ⌝ }
+        ensures { λ r. ⌜ BothFit r (self .len) (self .text) ⌝ }
     {
-        self.agreed = vectors::up(self.agreed);
+        self.agreed = replay::up(self.agreed);
         let k = self.ending as usize;
         if k < 16 {
-            self.endings[k] = vectors::up(self.endings[k]);
+            self.endings[k] = replay::up(self.endings[k]);
         }
         self
     }
 
     // After the last line of an answer: the case is counted, and told if it does not agree.
     fn counted(mut self) -> Check
-        ensures { λ r. ⌜ Held r (self .len) (self .text) ⌝ }
+        ensures { λ r. ⌜ BothFit r (self .len) (self .text) ⌝ }
     {
-        self.cases = vectors::up(self.cases);
+        self.cases = replay::up(self.cases);
         if self.other == 0 {
             return self.agreeing();
         }
@@ -306,7 +307,7 @@ impl Check {
 
     // After a line, between two places of the stream.
     fn settled(self, was: Stream, then: Stream) -> Check
-        ensures { λ r. ⌜ Held r (self .len) (self .text) ⌝ }
+        ensures { λ r. ⌜ BothFit r (self .len) (self .text) ⌝ }
     {
         let old = was.phase;
         let new = then.phase;
@@ -328,8 +329,8 @@ impl Check {
         msg: &mut [u8],
         out: &mut [u16],
     ) -> Check
-        requires { ⌜ Within (input .came) (length (now buf)) × Held self (length (now file)) (length (now msg)) × (length (now out) ≡ 30720) ⌝ }
-        ensures { λ r. ⌜ Held r (length (now (file .exit))) (length (now (msg .exit))) × (length (now (out .exit)) ≡ 30720) ⌝ }
+        requires { ⌜ Within (input .came) (length (now buf)) × BothFit self (length (now file)) (length (now msg)) × (length (now out) ≡ 30720) ⌝ }
+        ensures { λ r. ⌜ BothFit r (length (now (file .exit))) (length (now (msg .exit))) × (length (now (out .exit)) ≡ 30720) ⌝ }
     {
         if !input.read {
             return self;

@@ -1,6 +1,7 @@
 // Replays the L cases of an answer stream on standard input, and prints how many agree and how these end.
 mod compare;
 
+use compare::Check;
 use libc::STDOUT_FILENO;
 use replay::Input;
 ghost use lib.ListN.{length};
@@ -30,6 +31,17 @@ fn print_endings(endings: &[u32; 16]) {
     }
 }
 
+// What is printed at the end.
+fn print_all(input: Input, check: Check) {
+    if check.good && input.is_whole() {
+        let endings = check.endings;
+        replay::print_score(b'L', check.agreed, check.cases);
+        print_endings(&endings);
+        return;
+    }
+    replay::print_bad(input.line);
+}
+
 // Nothing says that the input ends: the turns are counted down from a number that no run uses up.
 fn run_all(buf: &mut [u8], file: &mut [u8], msg: &mut [u8], out: &mut [u16])
     requires { ⌜ length (now out) ≡ 30720 ⌝ }
@@ -42,13 +54,7 @@ fn run_all(buf: &mut [u8], file: &mut [u8], msg: &mut [u8], out: &mut [u16])
         check = check.after_turn(input, buf, file, msg, out);
         turns -= 1;
     }
-    if check.good && input.is_whole() {
-        let endings = check.endings;
-        replay::print_score(b'L', check.agreed, check.cases);
-        print_endings(&endings);
-        return;
-    }
-    replay::print_bad(input.line);
+    print_all(input, check);
 }
 
 fn main() {

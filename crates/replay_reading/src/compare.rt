@@ -2,9 +2,8 @@
 use number::Number;
 use numbers::Numbers;
 use reading::Reading;
-use vectors::Bytes;
-use vectors::Phase;
-use vectors::Stream;
+use replay::Phase;
+use replay::Stream;
 ghost use Prim.Native.Nat.{_≤_};
 ghost use lib.ListN.{length};
 
@@ -59,13 +58,14 @@ pub fn compares(kind: u8) -> bool {
 fn opened(line: &[u8], n: usize, number: u32, max: u32, msg: &mut [u8]) -> Check
     ensures { λ r. ⌜ r .len ≤ length (now (msg .exit)) ⌝ }
 {
-    let Bytes::Are(len) = vectors::bytes_at(line, n, msg) else {
+    let bytes = replay::bytes_at(line, n, msg);
+    if !bytes.good {
         return none(false);
-    };
+    }
     Check {
         line: number,
         max,
-        len,
+        len: bytes.len,
         at: 0,
         agree: true,
         good: true,
@@ -77,7 +77,7 @@ fn open(line: &[u8], kind: u8, number: u32, msg: &mut [u8]) -> Check
     ensures { λ r. ⌜ r .len ≤ length (now (msg .exit)) ⌝ }
 {
     if kind == b'D' {
-        let max = largest(vectors::number_at(line, 1));
+        let max = largest(replay::number_at(line, 1));
         if max == 0 {
             return none(false);
         }
@@ -102,12 +102,12 @@ fn number_of(kind: u8, max: u32, s: &[u8]) -> Number {
 fn is_answer(line: &[u8], n: Number) -> bool {
     match n {
         Number::Is(x) => {
-            if vectors::words(line) == 2 {
-                return vectors::is_number(line, 1, x as u64);
+            if replay::words(line) == 2 {
+                return replay::is_number(line, 1, x as u64);
             }
             false
         }
-        Number::Refused => vectors::is_number(line, 0, 0),
+        Number::Refused => replay::is_number(line, 0, 0),
     }
 }
 
@@ -125,8 +125,8 @@ fn whole(msg: &[u8]) -> u64 {
 // Whether the first line of a V answer is right: no slice is left out where it counts none.
 fn is_count(line: &[u8], msg: &[u8]) -> bool {
     let refused = whole(msg);
-    if vectors::words(line) == 1 {
-        if vectors::is_number(line, 0, 0) {
+    if replay::words(line) == 1 {
+        if replay::is_number(line, 0, 0) {
             return msg.len() == 0;
         }
         return refused == 0;
@@ -134,7 +134,7 @@ fn is_count(line: &[u8], msg: &[u8]) -> bool {
     if refused == 0 {
         return false;
     }
-    vectors::is_number(line, 1, refused)
+    replay::is_number(line, 1, refused)
 }
 
 // Whether a slice line starts with a place and a length.
@@ -142,8 +142,8 @@ fn is_slice(line: &[u8], at: usize, len: usize) -> bool {
     if len == 0 {
         return false;
     }
-    if vectors::is_number(line, 0, at as u64) {
-        return vectors::is_number(line, 1, len as u64);
+    if replay::is_number(line, 0, at as u64) {
+        return replay::is_number(line, 1, len as u64);
     }
     false
 }
@@ -152,7 +152,7 @@ fn is_slice(line: &[u8], at: usize, len: usize) -> bool {
 fn has(line: &[u8], k: usize, n: u32) -> bool
     requires { ⌜ k ≤ 8 ⌝ }
 {
-    vectors::is_number(line, k + 2, n as u64)
+    replay::is_number(line, k + 2, n as u64)
 }
 
 // Whether a slice line ends with a value's code and its eight numbers.

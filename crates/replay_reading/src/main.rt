@@ -3,10 +3,10 @@ mod compare;
 
 use compare::Check;
 use replay::Input;
-use vectors::Stream;
+use replay::Stream;
 ghost use Prim.Native.Nat.{_≤_, _<_};
 ghost use lib.ListN.{length};
-ghost use Rattle.vectors.specs.Text.{Within};
+ghost use Rattle.replay.specs.Text.{Within};
 
 // Where the cases of a kind are counted; those that agree, four further on.
 fn place(kind: u8) -> usize
@@ -25,9 +25,9 @@ fn settle(check: Check, kind: u8, case: &[u8], scores: &mut [u32; 8]) {
     let i = place(kind);
     let cases = scores[i];
     let agree = scores[i + 4];
-    scores[i] = vectors::up(cases);
+    scores[i] = replay::up(cases);
     if check.agree {
-        scores[i + 4] = vectors::up(agree);
+        scores[i + 4] = replay::up(agree);
         return;
     }
     if agree == cases {
@@ -51,7 +51,7 @@ fn settle_at(
     }
     if was.answers() {
         if compare::compares(was.kind) {
-            let end = vectors::line_end(text, start);
+            let end = replay::line_end(text, start);
             settle(check, was.kind, &text[start..end], scores);
         }
     }
@@ -86,6 +86,15 @@ fn print_scores(scores: &[u32; 8]) {
     replay::print_score(b'V', scores[7], scores[3]);
 }
 
+// What is printed at the end.
+fn print_all(input: Input, check: Check, scores: &[u32; 8]) {
+    if check.good && input.is_whole() {
+        print_scores(scores);
+        return;
+    }
+    replay::print_bad(input.line);
+}
+
 // Nothing says that the input ends: the turns are counted down from a number that no run uses up.
 fn run_all(buf: &mut [u8], msg: &mut [u8]) {
     let mut scores = [0u32; 8];
@@ -97,11 +106,7 @@ fn run_all(buf: &mut [u8], msg: &mut [u8]) {
         check = after_turn(check, input, buf, msg, &mut scores);
         turns -= 1;
     }
-    if check.good && input.is_whole() {
-        print_scores(&scores);
-        return;
-    }
-    replay::print_bad(input.line);
+    print_all(input, check, &scores);
 }
 
 fn main() {

@@ -1,12 +1,11 @@
 // Comparing what is read of a sign file with its answer, line by line.
 use replay::Input;
+use replay::Phase;
+use replay::Stream;
 use sign::Outcome;
-use vectors::Bytes;
-use vectors::Phase;
-use vectors::Stream;
 ghost use Prim.Native.Nat.{_≤_};
 ghost use lib.ListN.{length};
-ghost use Rattle.vectors.specs.Text.{Within};
+ghost use Rattle.replay.specs.Text.{Within};
 
 // The sign file that came last, and the case whose answer is read.
 // len: how many bytes the file has. seen: one came. line: where the case stands. row: the next font of its answer.
@@ -40,30 +39,30 @@ pub fn none() -> Check
 
 // Whether a line is the count of fonts.
 fn is_count(line: &[u8], count: usize) -> bool {
-    if vectors::words(line) != 1 {
+    if replay::words(line) != 1 {
         return false;
     }
-    vectors::is_number(line, 0, count as u64)
+    replay::is_number(line, 0, count as u64)
 }
 
 // Whether a line is refusal 1 with that start.
 fn is_refusal(line: &[u8], start: usize) -> bool {
-    if vectors::words(line) != 5 {
+    if replay::words(line) != 5 {
         return false;
     }
-    if !vectors::is_number(line, 0, 4) {
+    if !replay::is_number(line, 0, 4) {
         return false;
     }
-    if !vectors::is_number(line, 1, 1) {
+    if !replay::is_number(line, 1, 1) {
         return false;
     }
-    if !vectors::is_number(line, 2, start as u64) {
+    if !replay::is_number(line, 2, start as u64) {
         return false;
     }
-    if !vectors::is_number(line, 3, 0) {
+    if !replay::is_number(line, 3, 0) {
         return false;
     }
-    vectors::is_number(line, 4, 0)
+    replay::is_number(line, 4, 0)
 }
 
 // Whether the first line of an answer is right.
@@ -86,8 +85,8 @@ fn is_font(line: &[u8], row: usize, file: &[u8]) -> bool {
         return false;
     }
     let e = sign.fonts[row];
-    if vectors::is_number(line, 0, e.number as u64) {
-        return vectors::is_number(line, 1, e.version_id as u64);
+    if replay::is_number(line, 0, e.number as u64) {
+        return replay::is_number(line, 1, e.version_id as u64);
     }
     false
 }
@@ -106,10 +105,11 @@ impl Check {
         requires { ⌜ self .len ≤ length (now file) ⌝ }
         ensures { λ r. ⌜ r .len ≤ length (now (file .exit)) ⌝ }
     {
-        let Bytes::Are(len) = vectors::bytes_at(line, 1, file) else {
+        let bytes = replay::bytes_at(line, 1, file);
+        if !bytes.good {
             return self.bad();
-        };
-        self.len = len;
+        }
+        self.len = bytes.len;
         self.seen = true;
         self
     }
@@ -161,7 +161,7 @@ impl Check {
             }
             return self;
         }
-        let letter = vectors::letter(line);
+        let letter = replay::letter(line);
         if letter == b'S' {
             return self.with_file(line, file);
         }
@@ -175,9 +175,9 @@ impl Check {
     fn counted(mut self) -> Check
         ensures { λ r. ⌜ r .len ≤ self .len ⌝ }
     {
-        self.cases = vectors::up(self.cases);
+        self.cases = replay::up(self.cases);
         if self.agree {
-            self.agreed = vectors::up(self.agreed);
+            self.agreed = replay::up(self.agreed);
             return self;
         }
         replay::print_other(self.line, b"I");

@@ -1,7 +1,17 @@
 // Replays the I cases of an answer stream on standard input, and prints how many agree.
 mod compare;
 
+use compare::Check;
 use replay::Input;
+
+// What is printed at the end.
+fn print_all(input: Input, check: Check) {
+    if check.good && input.is_whole() {
+        replay::print_score(b'I', check.agreed, check.cases);
+        return;
+    }
+    replay::print_bad(input.line);
+}
 
 // Nothing says that the input ends: the turns are counted down from a number that no run uses up.
 fn run_all(buf: &mut [u8], file: &mut [u8]) {
@@ -13,11 +23,7 @@ fn run_all(buf: &mut [u8], file: &mut [u8]) {
         check = check.after_turn(input, buf, file);
         turns -= 1;
     }
-    if check.good && input.is_whole() {
-        replay::print_score(b'I', check.agreed, check.cases);
-        return;
-    }
-    replay::print_bad(input.line);
+    print_all(input, check);
 }
 
 fn main() {

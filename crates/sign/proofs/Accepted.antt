@@ -61,9 +61,15 @@ rest-drop n at file b l e =
     rw (← drop-tail at file b l e, drop-drop (3 + n) (suc at) file, to)
 
 -- a whole record at the start of what is left of the file
-placed : (file : List ℕ) (at b : ℕ) (l : List ℕ) → Bytes file → drop at file ≡ b ∷ l → whole (b ∷ l) ≡ true → Placed file at (take (bodyLen (b ∷ l)) (drop 4 (b ∷ l))) (cutFrom (suc at) (restLen (b ∷ l)) l)
+placed : (file : List ℕ) (at b : ℕ) (l : List ℕ) → Bytes file → drop at file ≡ b ∷ l → whole (b ∷ l) ≡ true
+    → Placed file at (take (bodyLen (b ∷ l)) (drop 4 (b ∷ l))) (cutFrom (suc at) (restLen (b ∷ l)) l)
 unfolding piecesAt restLen
-placed file at b l h e w = record { inside = omega (arith, size, left, room (b ∷ l) w .1); byte = bytes-take (bodyLen (b ∷ l)) (drop 4 (b ∷ l)) (bytes-drop 4 (b ∷ l) (rw (← e) (bytes-drop at file h))); after = after }
+placed file at b l h e w =
+    record {
+      inside = omega (arith, size, left, room (b ∷ l) w .1);
+      byte = bytes-take (bodyLen (b ∷ l)) (drop 4 (b ∷ l)) (bytes-drop 4 (b ∷ l) (rw (← e) (bytes-drop at file h)));
+      after = after;
+    }
   where
     size : length (take (bodyLen (b ∷ l)) (drop 4 (b ∷ l))) ≡ bodyLen (b ∷ l)
     size = simp (length-take, length-drop) (omega (arith, room (b ∷ l) w .1))
@@ -71,7 +77,8 @@ placed file at b l h e w = record { inside = omega (arith, size, left, room (b �
     left : length file - at ≡ length (b ∷ l)
     left = rw (← length-drop at file, e)
 
-    after : cutFrom (suc at) (pick (whole (b ∷ l)) (3 + bodyLen (b ∷ l)) (length (b ∷ l))) l ≡ cutFrom (at + 4 + length (take (bodyLen (b ∷ l)) (drop 4 (b ∷ l)))) 0 (drop (at + 4 + length (take (bodyLen (b ∷ l)) (drop 4 (b ∷ l)))) file)
+    after : cutFrom (suc at) (pick (whole (b ∷ l)) (3 + bodyLen (b ∷ l)) (length (b ∷ l))) l
+        ≡ cutFrom (at + 4 + length (take (bodyLen (b ∷ l)) (drop 4 (b ∷ l)))) 0 (drop (at + 4 + length (take (bodyLen (b ∷ l)) (drop 4 (b ∷ l)))) file)
     after =
         let to : suc at + (3 + bodyLen (b ∷ l)) ≡ at + 4 + bodyLen (b ∷ l) = omega arith in
         rw (size, w, skips (suc at) (3 + bodyLen (b ∷ l)) l, to, rest-drop (bodyLen (b ∷ l)) at file b l e)
@@ -82,7 +89,8 @@ chain file h [] at k e = tt
 chain file h (b ∷ l) at (suc k) e = chain file h l (suc at) k (drop-tail at file b l e)
 chain file h (b ∷ l) at zero e = go (whole (b ∷ l)) refl (chain file h l (suc at) (restLen (b ∷ l)) (drop-tail at file b l e))
   where
-    go : (t : Bool) → whole (b ∷ l) ≡ t → Chain file (cutFrom (suc at) (restLen (b ∷ l)) l) → Chain file (pick t (Record at (kindOf (b ∷ l)) (take (bodyLen (b ∷ l)) (drop 4 (b ∷ l)))) (CutShort at) ∷ cutFrom (suc at) (restLen (b ∷ l)) l)
+    go : (t : Bool) → whole (b ∷ l) ≡ t → Chain file (cutFrom (suc at) (restLen (b ∷ l)) l)
+        → Chain file (pick t (Record at (kindOf (b ∷ l)) (take (bodyLen (b ∷ l)) (drop 4 (b ∷ l)))) (CutShort at) ∷ cutFrom (suc at) (restLen (b ∷ l)) l)
     go true w r = (placed file at b l h e w, r)
     go false w r = r
 
@@ -114,12 +122,24 @@ module _ (file : List ℕ) where
 
   module _ (at kind : ℕ) (body : List ℕ) (ps : List Piece) (pl : Placed file at body ps) where
     -- a font and what follows it
-    rest-font : (ns : List ℕ) (b : Before) → Small b → isFont ns kind body ≡ true → Rest (getD body 0 0 ∷ ns) (After (getD body 1 0) []) ps → Rest ns b (Record at kind body ∷ ps)
+    rest-font : (ns : List ℕ) (b : Before) → Small b → isFont ns kind body ≡ true → Rest (getD body 0 0 ∷ ns) (After (getD body 1 0) []) ps
+        → Rest ns b (Record at kind body ∷ ps)
     unfolding isFont
-    rest-font ns b sm e r = record { few = rw fonts (omega (arith, r .few)); apart = rw fonts (apart-more (not-true (member (getD body 0 0) ns) (ok .1 .1 .1 .1 .0)) (r .apart)); each = rw fonts (each-more font (r .each)); now = rw chars (now-none b sm) }
+    rest-font ns b sm e r =
+        record {
+          few = rw fonts (omega (arith, r .few));
+          apart = rw fonts (apart-more (not-true (member (getD body 0 0) ns) (ok .1 .1 .1 .1 .0)) (r .apart));
+          each = rw fonts (each-more font (r .each));
+          now = rw chars (now-none b sm);
+        }
       where
-        ok : Tests (eqb kind 2 ∷ eqb (length body) 6 ∷ notZero (getD body 0 0) ∷ notZero (getD body 1 0) ∷ not (member (getD body 0 0) ns) ∷ ltb (length ns) 24 ∷ [])
-        ok = tests (eqb kind 2 ∷ eqb (length body) 6 ∷ notZero (getD body 0 0) ∷ notZero (getD body 1 0) ∷ not (member (getD body 0 0) ns) ∷ ltb (length ns) 24 ∷ []) e
+        ok : Tests
+            (eqb kind 2 ∷ eqb (length body) 6 ∷ notZero (getD body 0 0) ∷ notZero (getD body 1 0) ∷ not (member (getD body 0 0) ns)
+            ∷ ltb (length ns) 24 ∷ [])
+        ok =
+            tests
+            (eqb kind 2 ∷ eqb (length body) 6 ∷ notZero (getD body 0 0) ∷ notZero (getD body 1 0) ∷ not (member (getD body 0 0) ns)
+            ∷ ltb (length ns) 24 ∷ []) e
 
         is-kind : kind ≡ 2
         is-kind = eqb-true kind 2 (ok .0)
@@ -131,15 +151,47 @@ module _ (file : List ℕ) where
         chars = unfold charactersOf in rw (ne-eqb kind 3 (λ d. omega (arith, is-kind)))
 
         font : GoodFont file (fontOf at body (charactersOf ps))
-        font = record { number-some = some (getD body 0 0) (ok .1 .1 .0); number-byte = pl .byte 0; height-some = some (getD body 1 0) (ok .1 .1 .1 .0); height-byte = pl .byte 1; char-spacing-byte = pl .byte 2; line-spacing-byte = pl .byte 3; version-word = word 4 body (pl .byte); inside = pl .inside; are = ap charactersOf (pl .after); few = omega (arith, r .now .few); apart = r .now .apart; each = r .now .each }
+        font =
+            record {
+              number-some = some (getD body 0 0) (ok .1 .1 .0);
+              number-byte = pl .byte 0;
+              height-some = some (getD body 1 0) (ok .1 .1 .1 .0);
+              height-byte = pl .byte 1;
+              char-spacing-byte = pl .byte 2;
+              line-spacing-byte = pl .byte 3;
+              version-word = word 4 body (pl .byte);
+              inside = pl .inside;
+              are = ap charactersOf (pl .after);
+              few = omega (arith, r .now .few);
+              apart = r .now .apart;
+              each = r .now .each;
+            }
 
     -- a character and what follows it
-    rest-char : (ns : List ℕ) (height : ℕ) (cs : List ℕ) → isCharacter (After height cs) kind body ≡ true → Rest ns (After height (littleAt 2 0 body ∷ cs)) ps → Rest ns (After height cs) (Record at kind body ∷ ps)
+    rest-char : (ns : List ℕ) (height : ℕ) (cs : List ℕ) → isCharacter (After height cs) kind body ≡ true
+        → Rest ns (After height (littleAt 2 0 body ∷ cs)) ps → Rest ns (After height cs) (Record at kind body ∷ ps)
     unfolding isCharacter
-    rest-char ns height cs e r = record { few = rw fonts (r .few); apart = rw fonts (r .apart); each = rw fonts (r .each); now = rw chars (record { few = omega (arith, r .now .few); apart = apart-more (not-true (member (littleAt 2 0 body) cs) (ok .1 .1 .1 .0)) (r .now .apart); each = each-more char (r .now .each) }) }
+    rest-char ns height cs e r =
+        record {
+          few = rw fonts (r .few);
+          apart = rw fonts (r .apart);
+          each = rw fonts (r .each);
+          now =
+              rw chars
+              (record {
+                few = omega (arith, r .now .few);
+                apart = apart-more (not-true (member (littleAt 2 0 body) cs) (ok .1 .1 .1 .0)) (r .now .apart);
+                each = each-more char (r .now .each);
+              });
+        }
       where
-        ok : Tests (eqb kind 3 ∷ eqb (length body) (3 + bitmapLen (getD body 2 0) height) ∷ notZero (littleAt 2 0 body) ∷ not (member (littleAt 2 0 body) cs) ∷ ltb (length cs) 256 ∷ [])
-        ok = tests (eqb kind 3 ∷ eqb (length body) (3 + bitmapLen (getD body 2 0) height) ∷ notZero (littleAt 2 0 body) ∷ not (member (littleAt 2 0 body) cs) ∷ ltb (length cs) 256 ∷ []) e
+        ok : Tests
+            (eqb kind 3 ∷ eqb (length body) (3 + bitmapLen (getD body 2 0) height) ∷ notZero (littleAt 2 0 body)
+            ∷ not (member (littleAt 2 0 body) cs) ∷ ltb (length cs) 256 ∷ [])
+        ok =
+            tests
+            (eqb kind 3 ∷ eqb (length body) (3 + bitmapLen (getD body 2 0) height) ∷ notZero (littleAt 2 0 body)
+            ∷ not (member (littleAt 2 0 body) cs) ∷ ltb (length cs) 256 ∷ []) e
 
         is-kind : kind ≡ 3
         is-kind = eqb-true kind 3 (ok .0)
@@ -151,15 +203,29 @@ module _ (file : List ℕ) where
         chars = unfold charactersOf in rw (eq-eqb kind 3 is-kind)
 
         char : GoodCharacter file height (characterOf at body)
-        char = record { number-some = some (littleAt 2 0 body) (ok .1 .1 .0); number-word = word 0 body (pl .byte); width-byte = pl .byte 2; inside = omega (arith, pl .inside, eqb-true (length body) (3 + bitmapLen (getD body 2 0) height) (ok .1 .0)) }
+        char =
+            record {
+              number-some = some (littleAt 2 0 body) (ok .1 .1 .0);
+              number-word = word 0 body (pl .byte);
+              width-byte = pl .byte 2;
+              inside = omega (arith, pl .inside, eqb-true (length body) (3 + bitmapLen (getD body 2 0) height) (ok .1 .0));
+            }
 
   font-few : (ns : List ℕ) (kind : ℕ) (body : List ℕ) → isFont ns kind body ≡ true → length ns < 24
   unfolding isFont
-  font-few ns kind body e = ltb-true (length ns) 24 (tests (eqb kind 2 ∷ eqb (length body) 6 ∷ notZero (getD body 0 0) ∷ notZero (getD body 1 0) ∷ not (member (getD body 0 0) ns) ∷ ltb (length ns) 24 ∷ []) e .1 .1 .1 .1 .1 .0)
+  font-few ns kind body e =
+      ltb-true (length ns) 24
+      (tests
+      (eqb kind 2 ∷ eqb (length body) 6 ∷ notZero (getD body 0 0) ∷ notZero (getD body 1 0) ∷ not (member (getD body 0 0) ns)
+      ∷ ltb (length ns) 24 ∷ []) e .1 .1 .1 .1 .1 .0)
 
   char-few : (height : ℕ) (cs : List ℕ) (kind : ℕ) (body : List ℕ) → isCharacter (After height cs) kind body ≡ true → length cs < 256
   unfolding isCharacter
-  char-few height cs kind body e = ltb-true (length cs) 256 (tests (eqb kind 3 ∷ eqb (length body) (3 + bitmapLen (getD body 2 0) height) ∷ notZero (littleAt 2 0 body) ∷ not (member (littleAt 2 0 body) cs) ∷ ltb (length cs) 256 ∷ []) e .1 .1 .1 .1 .0)
+  char-few height cs kind body e =
+      ltb-true (length cs) 256
+      (tests
+      (eqb kind 3 ∷ eqb (length body) (3 + bitmapLen (getD body 2 0) height) ∷ notZero (littleAt 2 0 body)
+      ∷ not (member (littleAt 2 0 body) cs) ∷ ltb (length cs) 256 ∷ []) e .1 .1 .1 .1 .0)
 
   rest : (ps : List Piece) (ns : List ℕ) (b : Before) → Chain file ps → length ns ≤ 24 → Small b → faultFrom ns b ps ≡ Fine → Rest ns b ps
   unfolding faultFrom fontsOf charactersOf
@@ -167,15 +233,27 @@ module _ (file : List ℕ) where
   rest (CutShort at ∷ ps) ns b ch h sm e = never (let z : _≡_ {A = ℕ} 0 1 = cc in z)
   rest (Record at kind body ∷ ps) ns NoFont ch h sm e = go (isFont ns kind body) refl (rest ps (getD body 0 0 ∷ ns) (After (getD body 1 0) []) (ch .1)) e
     where
-      go : (t : Bool) → isFont ns kind body ≡ t → (suc (length ns) ≤ 24 → 0 ≤ 256 → faultFrom (getD body 0 0 ∷ ns) (After (getD body 1 0) []) ps ≡ Fine → Rest (getD body 0 0 ∷ ns) (After (getD body 1 0) []) ps) → pick t (faultFrom (getD body 0 0 ∷ ns) (After (getD body 1 0) []) ps) (pick (isCharacter NoFont kind body) (faultFrom ns NoFont ps) (FailsAt at)) ≡ Fine → Rest ns NoFont (Record at kind body ∷ ps)
+      go : (t : Bool) → isFont ns kind body ≡ t
+          → (suc (length ns) ≤ 24 → 0 ≤ 256 → faultFrom (getD body 0 0 ∷ ns) (After (getD body 1 0) []) ps ≡ Fine
+          → Rest (getD body 0 0 ∷ ns) (After (getD body 1 0) []) ps)
+          → pick t (faultFrom (getD body 0 0 ∷ ns) (After (getD body 1 0) []) ps) (pick (isCharacter NoFont kind body) (faultFrom ns NoFont ps) (FailsAt at))
+          ≡ Fine → Rest ns NoFont (Record at kind body ∷ ps)
       go true p k q = rest-font at kind body ps (ch .0) ns NoFont tt p (k (font-few ns kind body p) (omega arith) q)
       go false p k q = never (none q)
         where
           none : pick (isCharacter NoFont kind body) (faultFrom ns NoFont ps) (FailsAt at) ≡ Fine → _≡_ {A = ℕ} 0 1
           none r = unfold isCharacter in cc
-  rest (Record at kind body ∷ ps) ns (After height cs) ch h sm e = go (isFont ns kind body) (isCharacter (After height cs) kind body) refl refl (rest ps (getD body 0 0 ∷ ns) (After (getD body 1 0) []) (ch .1)) (rest ps ns (After height (littleAt 2 0 body ∷ cs)) (ch .1) h) e
+  rest (Record at kind body ∷ ps) ns (After height cs) ch h sm e =
+      go (isFont ns kind body) (isCharacter (After height cs) kind body) refl refl (rest ps (getD body 0 0 ∷ ns) (After (getD body 1 0) []) (ch .1))
+      (rest ps ns (After height (littleAt 2 0 body ∷ cs)) (ch .1) h) e
     where
-      go : (t u : Bool) → isFont ns kind body ≡ t → isCharacter (After height cs) kind body ≡ u → (suc (length ns) ≤ 24 → 0 ≤ 256 → faultFrom (getD body 0 0 ∷ ns) (After (getD body 1 0) []) ps ≡ Fine → Rest (getD body 0 0 ∷ ns) (After (getD body 1 0) []) ps) → (suc (length cs) ≤ 256 → faultFrom ns (After height (littleAt 2 0 body ∷ cs)) ps ≡ Fine → Rest ns (After height (littleAt 2 0 body ∷ cs)) ps) → pick t (faultFrom (getD body 0 0 ∷ ns) (After (getD body 1 0) []) ps) (pick u (faultFrom ns (After height (littleAt 2 0 body ∷ cs)) ps) (FailsAt at)) ≡ Fine → Rest ns (After height cs) (Record at kind body ∷ ps)
+      go : (t u : Bool) → isFont ns kind body ≡ t → isCharacter (After height cs) kind body ≡ u
+          → (suc (length ns) ≤ 24 → 0 ≤ 256 → faultFrom (getD body 0 0 ∷ ns) (After (getD body 1 0) []) ps ≡ Fine
+          → Rest (getD body 0 0 ∷ ns) (After (getD body 1 0) []) ps)
+          → (suc (length cs) ≤ 256 → faultFrom ns (After height (littleAt 2 0 body ∷ cs)) ps ≡ Fine → Rest ns (After height (littleAt 2 0 body ∷ cs)) ps)
+          → pick t (faultFrom (getD body 0 0 ∷ ns) (After (getD body 1 0) []) ps)
+          (pick u (faultFrom ns (After height (littleAt 2 0 body ∷ cs)) ps) (FailsAt at)) ≡ Fine
+          → Rest ns (After height cs) (Record at kind body ∷ ps)
       go true u p q k m r = rest-font at kind body ps (ch .0) ns (After height cs) sm p (k (font-few ns kind body p) (omega arith) r)
       go false true p q k m r = rest-char at kind body ps (ch .0) ns height cs q (m (char-few height cs kind body q) r)
       go false false p q k m r = never (let z : _≡_ {A = ℕ} 0 1 = cc in z)
@@ -198,7 +276,9 @@ unfolding bitsOk
 bits-known zero k tags j e p q = absurd (omega arith)
 bits-known (suc n) k tags j e p q = go (leb (bit k tags) (bit k mask)) (eqb k j) refl refl (bits-known n (k + 1) tags j) e
   where
-    go : (t u : Bool) → leb (bit k tags) (bit k mask) ≡ t → eqb k j ≡ u → (bitsOk n (k + 1) tags ≡ true → k + 1 ≤ j → j < k + 1 + n → bit j tags ≤ bit j mask) → pick t (bitsOk n (k + 1) tags) false ≡ true → bit j tags ≤ bit j mask
+    go : (t u : Bool) → leb (bit k tags) (bit k mask) ≡ t → eqb k j ≡ u
+        → (bitsOk n (k + 1) tags ≡ true → k + 1 ≤ j → j < k + 1 + n → bit j tags ≤ bit j mask) → pick t (bitsOk n (k + 1) tags) false ≡ true
+        → bit j tags ≤ bit j mask
     go true true a b f r = rw (← eqb-true k j b) (leb-true (bit k tags) (bit k mask) a)
     go true false a b f r =
         let no : k ≡ j → ⊥ = eqb-false k j b in
@@ -207,7 +287,19 @@ bits-known (suc n) k tags j e p q = go (leb (bit k tags) (bit k mask)) (eqb k j)
 
 config-good : (c : Config) → configOk c ≡ true → GoodConfig c
 unfolding configOk tagsOk
-config-good c e = record { width-some = sized (c .width) (ok .0) .0; width-most = sized (c .width) (ok .0) .1; height-some = sized (c .height) (ok .1 .0) .0; height-most = sized (c .height) (ok .1 .0) .1; font-some = some (c .font) (ok .1 .1 .0); line-from = justified (c .«line_just») (ok .1 .1 .1 .0) .0; line-to = justified (c .«line_just») (ok .1 .1 .1 .0) .1; page-from = justified (c .«page_just») (ok .1 .1 .1 .1 .0) .0; page-to = justified (c .«page_just») (ok .1 .1 .1 .1 .0) .1; tags-known = λ k h. bits-known 32 0 (c .tags) k (ok .1 .1 .1 .1 .1 .0) (omega arith) (omega arith) }
+config-good c e =
+    record {
+      width-some = sized (c .width) (ok .0) .0;
+      width-most = sized (c .width) (ok .0) .1;
+      height-some = sized (c .height) (ok .1 .0) .0;
+      height-most = sized (c .height) (ok .1 .0) .1;
+      font-some = some (c .font) (ok .1 .1 .0);
+      line-from = justified (c .«line_just») (ok .1 .1 .1 .0) .0;
+      line-to = justified (c .«line_just») (ok .1 .1 .1 .0) .1;
+      page-from = justified (c .«page_just») (ok .1 .1 .1 .1 .0) .0;
+      page-to = justified (c .«page_just») (ok .1 .1 .1 .1 .0) .1;
+      tags-known = λ k h. bits-known 32 0 (c .tags) k (ok .1 .1 .1 .1 .1 .0) (omega arith) (omega arith);
+    }
   where
     ok : Tests (sizeOk (c .width) ∷ sizeOk (c .height) ∷ notZero (c .font) ∷ justOk (c .«line_just») ∷ justOk (c .«page_just») ∷ bitsOk 32 0 (c .tags) ∷ [])
     ok = tests (sizeOk (c .width) ∷ sizeOk (c .height) ∷ notZero (c .font) ∷ justOk (c .«line_just») ∷ justOk (c .«page_just») ∷ bitsOk 32 0 (c .tags) ∷ []) e
@@ -219,8 +311,16 @@ first-good file [] h ch e = never (let z : _≡_ {A = ℕ} 0 1 = cc in z)
 first-good file (CutShort at ∷ ps) h ch e = never (let z : _≡_ {A = ℕ} 0 1 = cc in z)
 first-good file (Record at kind body ∷ ps) h ch e = go (isConfig kind body) refl e
   where
-    go : (t : Bool) → isConfig kind body ≡ t → pick t (faultFrom [] NoFont ps) (FailsAt at) ≡ Fine → GoodSign file (configOf body) (fontsOf (Record at kind body ∷ ps))
-    go true p q = record { size = h; config = config-good (configOf body) (ok .1 .1 .0); few = rw fonts (omega (arith, r .few)); apart = rw fonts (r .apart); each = rw fonts (r .each) }
+    go : (t : Bool) → isConfig kind body ≡ t → pick t (faultFrom [] NoFont ps) (FailsAt at) ≡ Fine
+        → GoodSign file (configOf body) (fontsOf (Record at kind body ∷ ps))
+    go true p q =
+        record {
+          size = h;
+          config = config-good (configOf body) (ok .1 .1 .0);
+          few = rw fonts (omega (arith, r .few));
+          apart = rw fonts (r .apart);
+          each = rw fonts (r .each);
+        }
       where
         ok : Tests (eqb kind 1 ∷ eqb (length body) 15 ∷ configOk (configOf body) ∷ [])
         ok = tests (eqb kind 1 ∷ eqb (length body) 15 ∷ configOk (configOf body) ∷ []) (unfold isConfig in p)
@@ -239,7 +339,8 @@ accepted file c fs h e = go (ltb 65535 (length file)) (firstFault (pieces file))
     made : length file ≤ 65535 → firstFault (pieces file) ≡ Fine → GoodSign file (configIn (pieces file)) (fontsOf (pieces file))
     made p q = first-good file (pieces file) p (unfold pieces in chain file h file 0 0 refl) q
 
-    go : (t : Bool) (v : Verdict) → ltb 65535 (length file) ≡ t → firstFault (pieces file) ≡ v → answer (pick t (FailsAt 0) v) (configIn (pieces file)) (fontsOf (pieces file)) ≡ Accepted c fs → GoodSign file c fs
+    go : (t : Bool) (v : Verdict) → ltb 65535 (length file) ≡ t → firstFault (pieces file) ≡ v
+        → answer (pick t (FailsAt 0) v) (configIn (pieces file)) (fontsOf (pieces file)) ≡ Accepted c fs → GoodSign file c fs
     go true v p q r = never (let z : _≡_ {A = ℕ} 0 1 = cc in z)
     go false Fine p q r =
         let a : configIn (pieces file) ≡ c = cc in

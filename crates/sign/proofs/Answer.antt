@@ -29,7 +29,13 @@ module _ (file : List ℕ) (r : SignFile) (e : r ≡ given (signFile file)) wher
       go (Content c fs) p q =
           let k : r .config ≡ c = ap (λ (x : SignFile). x .config) q in
           let i : signFile file ≡ Content (r .config) fs = p ∙ ap (λ (d : Config). Content d fs) (sym k) in
-          record { fs = fs; is = i; table = ap (λ (x : SignFile). x .fonts) q; many = ap (λ (x : SignFile). x .count) q; good = accepted file (r .config) fs h i }
+          record {
+            fs = fs;
+            is = i;
+            table = ap (λ (x : SignFile). x .fonts) q;
+            many = ap (λ (x : SignFile). x .count) q;
+            good = accepted file (r .config) fs h i;
+          }
       go (Refusal at) p q =
           let k : r .outcome ≡ RefusedAt at = ap (λ (x : SignFile). x .outcome) q in
           never (let z : _≡_ {A = ℕ} 0 1 = cc in z)

@@ -27,9 +27,12 @@ use Rattle.sign.specs.declared.SignFile.{SignFile}
 use Rattle.sign.proofs.Laws.{all-split, all-no, zeros, marked-none, marked-more}
 
 -- a font by its record's shape, and by the fonts before
-font-test : (ns : List ℕ) (kind : ℕ) (body : List ℕ) → isFont ns kind body ≡ all (fontShape kind body ∷ not (member (getD body 0 0) ns) ∷ ltb (length ns) 24 ∷ [])
+font-test : (ns : List ℕ) (kind : ℕ) (body : List ℕ)
+    → isFont ns kind body ≡ all (fontShape kind body ∷ not (member (getD body 0 0) ns) ∷ ltb (length ns) 24 ∷ [])
 unfolding isFont fontShape
-font-test ns kind body = all-split (eqb kind 2) (eqb (length body) 6 ∷ notZero (getD body 0 0) ∷ notZero (getD body 1 0) ∷ []) (not (member (getD body 0 0) ns)) (ltb (length ns) 24 ∷ [])
+font-test ns kind body =
+    all-split (eqb kind 2) (eqb (length body) 6 ∷ notZero (getD body 0 0) ∷ notZero (getD body 1 0) ∷ []) (not (member (getD body 0 0) ns))
+    (ltb (length ns) 24 ∷ [])
 
 -- what `font_at` found
 record FontHere (file : List ℕ) (at : ℕ) (f : FontEntry) : Type 0 where
@@ -54,7 +57,8 @@ font-here : (file : List ℕ) (at : ℕ) (f : FontEntry) → fontAt file at ≡ 
 unfolding fontAt fontIn
 font-here file at f e = go (headAt file at) refl e
   where
-    inner : (kind start stop : ℕ) (t : Bool) → headAt file at ≡ Whole kind start stop → fontShape kind (part file start stop) ≡ t → pick t (Is (fontEntry (part file start stop) stop)) Not ≡ Is f → FontHere file at f
+    inner : (kind start stop : ℕ) (t : Bool) → headAt file at ≡ Whole kind start stop → fontShape kind (part file start stop) ≡ t
+        → pick t (Is (fontEntry (part file start stop) stop)) Not ≡ Is f → FontHere file at f
     inner kind start stop true p q r =
         let n : fontEntry (part file start stop) stop ≡ f = cc in
         let d : stop ≡ f .first = first-is (part file start stop) stop f n in
@@ -66,11 +70,13 @@ font-here file at f e = go (headAt file at) refl e
     go Short p q = never (let z : _≡_ {A = ℕ} 0 1 = cc in z)
 
 -- a font, in each of the recursions
-fault-font : (ns : List ℕ) (b : Before) (at kind : ℕ) (body : List ℕ) (ps : List Piece) (n h : ℕ) → getD body 0 0 ≡ n → getD body 1 0 ≡ h → isFont ns kind body ≡ true → faultFrom ns b (Record at kind body ∷ ps) ≡ faultFrom (n ∷ ns) (After h []) ps
+fault-font : (ns : List ℕ) (b : Before) (at kind : ℕ) (body : List ℕ) (ps : List Piece) (n h : ℕ) → getD body 0 0 ≡ n → getD body 1 0 ≡ h
+    → isFont ns kind body ≡ true → faultFrom ns b (Record at kind body ∷ ps) ≡ faultFrom (n ∷ ns) (After h []) ps
 unfolding faultFrom
 fault-font ns b at kind body ps n h d e p = rw (p, d, e)
 
-fault-none : (ns : List ℕ) (b : Before) (at kind : ℕ) (body : List ℕ) (ps : List Piece) → isFont ns kind body ≡ false → stops b (Record at kind body ∷ ps) ≡ true → faultFrom ns b (Record at kind body ∷ ps) ≡ FailsAt at
+fault-none : (ns : List ℕ) (b : Before) (at kind : ℕ) (body : List ℕ) (ps : List Piece) → isFont ns kind body ≡ false
+    → stops b (Record at kind body ∷ ps) ≡ true → faultFrom ns b (Record at kind body ∷ ps) ≡ FailsAt at
 unfolding faultFrom stops
 fault-none ns b at kind body ps p q = rw (p, not-true (isCharacter b kind body) q)
 
@@ -96,7 +102,8 @@ fine-stop ns b (Record at kind body ∷ ps) p q = go (eqb kind 2) (rest) refl (r
     rest : Bool
     rest = all (eqb (length body) 6 ∷ notZero (getD body 0 0) ∷ notZero (getD body 1 0) ∷ not (member (getD body 0 0) ns) ∷ ltb (length ns) 24 ∷ [])
 
-    go : (t u : Bool) → eqb kind 2 ≡ t → pick (pick t u false) (faultFrom (getD body 0 0 ∷ ns) (After (getD body 1 0) []) ps) (FailsAt at) ≡ Fine → charactersOf (Record at kind body ∷ ps) ≡ []
+    go : (t u : Bool) → eqb kind 2 ≡ t → pick (pick t u false) (faultFrom (getD body 0 0 ∷ ns) (After (getD body 1 0) []) ps) (FailsAt at) ≡ Fine
+        → charactersOf (Record at kind body ∷ ps) ≡ []
     go true u e r = rw (ne-eqb kind 3 (λ d. omega (arith, eqb-true kind 2 e)))
     go false u e r = never (let z : _≡_ {A = ℕ} 0 1 = cc in z)
 
@@ -109,17 +116,34 @@ drop-none : (n m : ℕ) → n ≡ suc m → drop 1 (noFonts n) ≡ noFonts m
 unfolding noFonts
 drop-none n m e = rw e
 
-content-is : (c : Config) (fs : List Font) (fonts : List FontEntry) (count : ℕ) → length fs ≡ count → map entryOf fs ++ noFonts (24 - count) ≡ fonts → record { outcome = Accepted; config = c; fonts = fonts; count = count } ≡ contentOf c fs
+content-is : (c : Config) (fs : List Font) (fonts : List FontEntry) (count : ℕ) → length fs ≡ count → map entryOf fs ++ noFonts (24 - count) ≡ fonts
+    → record { outcome = Accepted; config = c; fonts = fonts; count = count } ≡ contentOf c fs
 unfolding contentOf
 content-is c fs fonts count d e = rw (← e, d)
 
-pub refusal-is : (at : ℕ) (fonts : List FontEntry) → fonts ≡ noFonts 24 → record { outcome = RefusedAt at; config = noConfig; fonts = fonts; count = 0 } ≡ refusalAt at
+pub refusal-is : (at : ℕ) (fonts : List FontEntry) → fonts ≡ noFonts 24
+    → record { outcome = RefusedAt at; config = noConfig; fonts = fonts; count = 0 } ≡ refusalAt at
 unfolding refusalAt
 refusal-is at fonts e = rw e
 
 -- the start: no font yet
-pub fonts-start : (file : List ℕ) (from : ℕ) (fonts : List FontEntry) → from ≤ length file → fonts ≡ noFonts 24 → Reading file from (replicate 256 0) fonts 0 from
-fonts-start file from fonts h z = record { ns = []; before = NoFont; few = refl; most = omega arith; inside = h; used-size = length-replicate {A = ℕ} 256 0; fonts-size = ap length z ∙ length-none 24; unused = z; marked = marked-none (replicate 256 0) (zeros 256); stop = none (piecesAt file from); fault = refl; listed = λ e. refl }
+pub fonts-start : (file : List ℕ) (from : ℕ) (fonts : List FontEntry) → from ≤ length file → fonts ≡ noFonts 24
+    → Reading file from (replicate 256 0) fonts 0 from
+fonts-start file from fonts h z =
+    record {
+      ns = [];
+      prior = NoFont;
+      few = refl;
+      most = omega arith;
+      inside = h;
+      used-size = length-replicate {A = ℕ} 256 0;
+      fonts-size = ap length z ∙ length-none 24;
+      unused = z;
+      marked = marked-none (replicate 256 0) (zeros 256);
+      stop = none (piecesAt file from);
+      fault = refl;
+      listed = λ e. refl;
+    }
   where
     none : (ps : List Piece) → stops NoFont ps ≡ true
     none [] = unfold stops in refl
@@ -128,7 +152,7 @@ fonts-start file from fonts h z = record { ns = []; before = NoFont; few = refl;
 
 module _ (file : List ℕ) (from : ℕ) (used : List ℕ) (fonts : List FontEntry) (count at : ℕ) (got : Reading file from used fonts count at) where
   -- what is given where the next record fails
-  fails : faultFrom (got .ns) (got .before) (piecesAt file at) ≡ FailsAt at → (c : Config) (r : SignFile) → r ≡ refusalAt at → r ≡ givenFrom file from c
+  fails : faultFrom (got .ns) (got .prior) (piecesAt file at) ≡ FailsAt at → (c : Config) (r : SignFile) → r ≡ refusalAt at → r ≡ givenFrom file from c
   unfolding givenFrom
   fails e c r p = rw (got .fault, e) p
 
@@ -140,8 +164,8 @@ module _ (file : List ℕ) (from : ℕ) (used : List ℕ) (fonts : List FontEntr
       fs : List Font
       fs = fontsOf (piecesAt file from)
 
-      fine : faultFrom (got .ns) (got .before) (piecesAt file at) ≡ Fine
-      fine = rw (pieces-end file at h) (fault-end (got .ns) (got .before))
+      fine : faultFrom (got .ns) (got .prior) (piecesAt file at) ≡ Fine
+      fine = rw (pieces-end file at h) (fault-end (got .ns) (got .prior))
 
       list : map entryOf (fontsOf (piecesAt file from)) ≡ take count fonts
       list = got .listed fine ∙ rw (pieces-end file at h) (append-nil (take count fonts))
@@ -173,8 +197,8 @@ module _ (file : List ℕ) (from : ℕ) (used : List ℕ) (fonts : List FontEntr
     test : isFont (got .ns) (here .kind) body ≡ all (not (eqb (getD used (f .number) 0) 1) ∷ ltb count 24 ∷ [])
     test = rw (font-test (got .ns) (here .kind) body, here .shape, number-is, got .marked .at-number (f .number), got .few)
 
-    stopped : isFont (got .ns) (here .kind) body ≡ false → faultFrom (got .ns) (got .before) (piecesAt file at) ≡ FailsAt at
-    stopped e = rw next (fault-none (got .ns) (got .before) at (here .kind) body (piecesAt file (f .first)) e (rw next at (got .stop)))
+    stopped : isFont (got .ns) (here .kind) body ≡ false → faultFrom (got .ns) (got .prior) (piecesAt file at) ≡ FailsAt at
+    stopped e = rw next (fault-none (got .ns) (got .prior) at (here .kind) body (piecesAt file (f .first)) e (rw next at (got .stop)))
 
     pub fails-full : count ≡ 24 → (c : Config) (r : SignFile) → r ≡ refusalAt at → r ≡ givenFrom file from c
     fails-full e = fails (stopped (rw (test, le-ltb count 24 (omega arith)) (all-no (not (eqb (getD used (f .number) 0) 1)))))
@@ -186,7 +210,13 @@ module _ (file : List ℕ) (from : ℕ) (used : List ℕ) (fonts : List FontEntr
     row-inside = omega (arith, here .ends, head-to file at (here .kind) (here .start) (here .end) (here .head))
 
     past : at < f .first
-    past = omega (arith, here .ends, head-start file at (here .kind) (here .start) (here .end) (here .head), head-from file at (here .kind) (here .start) (here .end) (here .head))
+    past =
+        omega (
+          arith,
+          here .ends,
+          head-start file at (here .kind) (here .start) (here .end) (here .head),
+          head-from file at (here .kind) (here .start) (here .end) (here .head),
+        )
 
     module _ (n to : ℕ) (ran : Ran file (f .first) (f .height) n to) where
       pub fonts-less : length file - to < length file - at
@@ -199,9 +229,12 @@ module _ (file : List ℕ) (from : ℕ) (used : List ℕ) (fonts : List FontEntr
         abbrev cs : List ℕ
         cs = ran .run .cs
 
-        step : faultFrom (got .ns) (got .before) (piecesAt file at) ≡ faultFrom (f .number ∷ got .ns) (After (f .height) cs) (piecesAt file to)
+        step : faultFrom (got .ns) (got .prior) (piecesAt file at) ≡ faultFrom (f .number ∷ got .ns) (After (f .height) cs) (piecesAt file to)
         step =
-            let font : faultFrom (got .ns) (got .before) (piecesAt file at) ≡ faultFrom (f .number ∷ got .ns) (After (f .height) []) (piecesAt file (f .first)) = rw next (fault-font (got .ns) (got .before) at (here .kind) body (piecesAt file (f .first)) (f .number) (f .height) number-is height-is good) in
+            let font : faultFrom (got .ns) (got .prior) (piecesAt file at)
+            ≡ faultFrom (f .number ∷ got .ns) (After (f .height) []) (piecesAt file (f .first)) =
+            rw next
+            (fault-font (got .ns) (got .prior) at (here .kind) body (piecesAt file (f .first)) (f .number) (f .height) number-is height-is good) in
             font ∙ ran .run .fault (f .number ∷ got .ns)
 
         module _ (fine : faultFrom (f .number ∷ got .ns) (After (f .height) cs) (piecesAt file to) ≡ Fine) where
@@ -212,7 +245,14 @@ module _ (file : List ℕ) (from : ℕ) (used : List ℕ) (fonts : List FontEntr
           count-is = ran .run .count ∙ rw none (omega arith)
 
           size-is : at + 4 + length body ≡ here .end
-          size-is = simp (length-take, length-drop) (omega (arith, head-start file at (here .kind) (here .start) (here .end) (here .head), head-from file at (here .kind) (here .start) (here .end) (here .head), head-to file at (here .kind) (here .start) (here .end) (here .head)))
+          size-is =
+              simp (length-take, length-drop)
+              (omega (
+                arith,
+                head-start file at (here .kind) (here .start) (here .end) (here .head),
+                head-from file at (here .kind) (here .start) (here .end) (here .head),
+                head-to file at (here .kind) (here .start) (here .end) (here .head),
+              ))
 
           entry-is : entryOf (fontOf at body (charactersOf (piecesAt file (f .first)))) ≡ filled f n
           unfolding fontEntry
@@ -225,11 +265,17 @@ module _ (file : List ℕ) (from : ℕ) (used : List ℕ) (fonts : List FontEntr
 
           list-is : map entryOf (fontsOf (piecesAt file at)) ≡ filled f n ∷ rest
           list-is =
-              let e : fontsOf (piecesAt file at) ≡ fontOf at body (charactersOf (piecesAt file (f .first))) ∷ fontsOf (piecesAt file (f .first)) = rw next (fonts-font at (here .kind) body (piecesAt file (f .first)) (here .is-kind)) in
+              let e : fontsOf (piecesAt file at) ≡ fontOf at body (charactersOf (piecesAt file (f .first))) ∷ fontsOf (piecesAt file (f .first)) =
+              rw next (fonts-font at (here .kind) body (piecesAt file (f .first)) (here .is-kind)) in
               ap (map entryOf) e ∙ rw (entry-is, ran .run .fonts)
 
           put : take count fonts ++ (filled f n ∷ rest) ≡ take (count + 1) (set fonts count (filled f n)) ++ rest
-          put = rw (add-one count, take-suc-set fonts count (filled f n) (omega (arith, got .fonts-size, got .most)), append-assoc (take count fonts) (filled f n ∷ []) rest)
+          put =
+              rw (
+                add-one count,
+                take-suc-set fonts count (filled f n) (omega (arith, got .fonts-size, got .most)),
+                append-assoc (take count fonts) (filled f n ∷ []) rest,
+              )
 
           listed : map entryOf (fontsOf (piecesAt file from)) ≡ take (count + 1) (set fonts count (filled f n)) ++ rest
           listed = got .listed (step ∙ fine) ∙ ap (λ (l : List FontEntry). take count fonts ++ l) list-is ∙ put
@@ -240,21 +286,36 @@ module _ (file : List ℕ) (from : ℕ) (used : List ℕ) (fonts : List FontEntr
             ∙ drop-none (24 - count) (24 - (count + 1)) (omega (arith, got .most))
 
         pub fonts-on : f .number < 256 → Reading file from (set used (f .number) 1) (set fonts count (filled f n)) (count + 1) to
-        fonts-on k = record { ns = f .number ∷ got .ns; before = After (f .height) cs; few = omega (arith, got .few); most = omega (arith, got .most); inside = ran .run .inside; used-size = length-set used (f .number) 1 ∙ got .used-size; fonts-size = length-set fonts count (filled f n) ∙ got .fonts-size; unused = unused; marked = marked-more (f .number) (got .ns) used (rw (got .used-size) k) (got .marked); stop = ran .stop; fault = got .fault ∙ step; listed = listed }
+        fonts-on k =
+            record {
+              ns = f .number ∷ got .ns;
+              prior = After (f .height) cs;
+              few = omega (arith, got .few);
+              most = omega (arith, got .most);
+              inside = ran .run .inside;
+              used-size = length-set used (f .number) 1 ∙ got .used-size;
+              fonts-size = length-set fonts count (filled f n) ∙ got .fonts-size;
+              unused = unused;
+              marked = marked-more (f .number) (got .ns) used (rw (got .used-size) k) (got .marked);
+              stop = ran .stop;
+              fault = got .fault ∙ step;
+              listed = listed;
+            }
 
   pub fails-not : (s : FontAt) → s ≡ fontAt file at → s ≡ Not → at < length file → (c : Config) (r : SignFile) → r ≡ refusalAt at → r ≡ givenFrom file from c
   unfolding fontAt fontIn
   fails-not s p q h = fails (go (headAt file at) refl (sym p ∙ q))
     where
-      inner : (kind start end : ℕ) (t : Bool) → headAt file at ≡ Whole kind start end → fontShape kind (part file start end) ≡ t → pick t (Is (fontEntry (part file start end) end)) Not ≡ Not → faultFrom (got .ns) (got .before) (piecesAt file at) ≡ FailsAt at
+      inner : (kind start end : ℕ) (t : Bool) → headAt file at ≡ Whole kind start end → fontShape kind (part file start end) ≡ t
+          → pick t (Is (fontEntry (part file start end) end)) Not ≡ Not → faultFrom (got .ns) (got .prior) (piecesAt file at) ≡ FailsAt at
       inner kind start end true d e r = never (let z : _≡_ {A = ℕ} 0 1 = cc in z)
       inner kind start end false d e r =
           let l : piecesAt file at ≡ Record at kind (part file start end) ∷ piecesAt file end = pieces-next file at kind start end d in
           let no : isFont (got .ns) kind (part file start end) ≡ false = rw (font-test (got .ns) kind (part file start end), e) in
-          rw l (fault-none (got .ns) (got .before) at kind (part file start end) (piecesAt file end) no (rw l at (got .stop)))
+          rw l (fault-none (got .ns) (got .prior) at kind (part file start end) (piecesAt file end) no (rw l at (got .stop)))
 
-      go : (x : Head) → headAt file at ≡ x → fontBy file x ≡ Not → faultFrom (got .ns) (got .before) (piecesAt file at) ≡ FailsAt at
+      go : (x : Head) → headAt file at ≡ x → fontBy file x ≡ Not → faultFrom (got .ns) (got .prior) (piecesAt file at) ≡ FailsAt at
       go (Whole kind start end) d e = inner kind start end (fontShape kind (part file start end)) d refl e
-      go Short d e = rw (pieces-short file at h d) (fault-short (got .ns) (got .before) at)
+      go Short d e = rw (pieces-short file at h d) (fault-short (got .ns) (got .prior) at)
 
 pub ruleset fonts-ways = (fonts-start, fonts-end, fails-full, fails-used, fails-not, row-inside, fonts-less, fonts-on)

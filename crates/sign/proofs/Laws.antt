@@ -152,9 +152,12 @@ all-split t [] u us = refl
 all-split true (s ∷ ts) u us = all-split s ts u us
 all-split false (s ∷ ts) u us = refl
 
-pub character-is : (height kind : ℕ) (cs body : List ℕ) → isCharacter (After height cs) kind body ≡ all (charShape height kind body ∷ not (member (littleAt 2 0 body) cs) ∷ ltb (length cs) 256 ∷ [])
+pub character-is : (height kind : ℕ) (cs body : List ℕ)
+    → isCharacter (After height cs) kind body ≡ all (charShape height kind body ∷ not (member (littleAt 2 0 body) cs) ∷ ltb (length cs) 256 ∷ [])
 unfolding isCharacter charShape
-character-is height kind cs body = all-split (eqb kind 3) (eqb (length body) (3 + bitmapLen (getD body 2 0) height) ∷ notZero (littleAt 2 0 body) ∷ []) (not (member (littleAt 2 0 body) cs)) (ltb (length cs) 256 ∷ [])
+character-is height kind cs body =
+    all-split (eqb kind 3) (eqb (length body) (3 + bitmapLen (getD body 2 0) height) ∷ notZero (littleAt 2 0 body) ∷ [])
+    (not (member (littleAt 2 0 body) cs)) (ltb (length cs) 256 ∷ [])
 
 -- what `char_at` found
 record CharHere (file : List ℕ) (at height code end : ℕ) : Type 0 where
@@ -167,17 +170,26 @@ record CharHere (file : List ℕ) (at height code end : ℕ) : Type 0 where
 
 shape-kind : (height kind : ℕ) (body : List ℕ) → charShape height kind body ≡ true → kind ≡ 3
 unfolding charShape
-shape-kind height kind body e = eqb-true kind 3 (tests (eqb kind 3 ∷ eqb (length body) (3 + bitmapLen (getD body 2 0) height) ∷ notZero (littleAt 2 0 body) ∷ []) e .0)
+shape-kind height kind body e =
+    eqb-true kind 3 (tests (eqb kind 3 ∷ eqb (length body) (3 + bitmapLen (getD body 2 0) height) ∷ notZero (littleAt 2 0 body) ∷ []) e .0)
 
 char-here : (file : List ℕ) (at height code end : ℕ) → charAt file at height ≡ Code code end → CharHere file at height code end
 unfolding charAt charIn
 char-here file at height code end e = go (headAt file at) refl e
   where
-    inner : (kind start stop : ℕ) (t : Bool) → headAt file at ≡ Whole kind start stop → charShape height kind (part file start stop) ≡ t → pick t (Code (littleAt 2 0 (part file start stop)) stop) Other ≡ Code code end → CharHere file at height code end
+    inner : (kind start stop : ℕ) (t : Bool) → headAt file at ≡ Whole kind start stop → charShape height kind (part file start stop) ≡ t
+        → pick t (Code (littleAt 2 0 (part file start stop)) stop) Other ≡ Code code end → CharHere file at height code end
     inner kind start stop true p q r =
         let d : stop ≡ end = cc in
         let n : littleAt 2 0 (part file start stop) ≡ code = cc in
-        record { kind = kind; start = start; head = rw (← d) p; is-kind = shape-kind height kind (part file start stop) q; shape = rw (← d) q; number = rw (← d) n }
+        record {
+          kind = kind;
+          start = start;
+          head = rw (← d) p;
+          is-kind = shape-kind height kind (part file start stop) q;
+          shape = rw (← d) q;
+          number = rw (← d) n;
+        }
     inner kind start stop false p q r = never (let z : _≡_ {A = ℕ} 0 1 = cc in z)
 
     go : (h : Head) → headAt file at ≡ h → charBy file height h ≡ Code code end → CharHere file at height code end
@@ -194,7 +206,8 @@ unfolding isFont
 not-font ns kind body n = rw (ne-eqb kind 2 n)
 
 -- a character, in each of the recursions
-fault-char : (ns : List ℕ) (b : Before) (at kind : ℕ) (body : List ℕ) (ps : List Piece) (code : ℕ) → littleAt 2 0 body ≡ code → isFont ns kind body ≡ false → isCharacter b kind body ≡ true → faultFrom ns b (Record at kind body ∷ ps) ≡ faultFrom ns (adding code b) ps
+fault-char : (ns : List ℕ) (b : Before) (at kind : ℕ) (body : List ℕ) (ps : List Piece) (code : ℕ) → littleAt 2 0 body ≡ code
+    → isFont ns kind body ≡ false → isCharacter b kind body ≡ true → faultFrom ns b (Record at kind body ∷ ps) ≡ faultFrom ns (adding code b) ps
 unfolding faultFrom
 fault-char ns b at kind body ps code e p q = rw (p, q, e)
 
@@ -218,11 +231,22 @@ stops-end : (b : Before) → stops b [] ≡ true
 unfolding stops
 stops-end b = refl
 
-pub run-start : (file : List ℕ) (from height : ℕ) (table : List ℕ) → from ≤ length file → ((n : ℕ) → getD table n 0 ≡ 0) → Running file from height (length table) table 0 from
+pub run-start : (file : List ℕ) (from height : ℕ) (table : List ℕ) → from ≤ length file → ((n : ℕ) → getD table n 0 ≡ 0)
+    → Running file from height (length table) table 0 from
 run-start file from height table h z = record { run = run; marked = marked-none table z; same = refl }
   where
     run : Run file from height 0 from
-    run = record { cs = []; few = refl; most = omega arith; onward = le-refl from; inside = h; fault = λ ns. refl; count = sym (zero-add (length (charactersOf (piecesAt file from)))); fonts = refl }
+    run =
+        record {
+          cs = [];
+          few = refl;
+          most = omega arith;
+          onward = le-refl from;
+          inside = h;
+          fault = λ ns. refl;
+          count = sym (zero-add (length (charactersOf (piecesAt file from))));
+          fonts = refl;
+        }
 
 abbrev row : ℕ → ℕ → Bool → Row
 row n at w = record { n = n; at = at; wide = w }
@@ -255,7 +279,13 @@ module _ (file : List ℕ) (from height size n at : ℕ) (table : List ℕ) (so 
     no-font e = omega (arith, here .is-kind)
 
     pub run-less : length file - end < length file - at
-    run-less = omega (arith, head-start file at (here .kind) (here .start) end (here .head), head-from file at (here .kind) (here .start) end (here .head), head-to file at (here .kind) (here .start) end (here .head))
+    run-less =
+        omega (
+          arith,
+          head-start file at (here .kind) (here .start) end (here .head),
+          head-from file at (here .kind) (here .start) end (here .head),
+          head-to file at (here .kind) (here .start) end (here .head),
+        )
 
     pub run-on : (n ≡ 256 → ⊥) → code < length table → (getD table code 0 ≡ 1 → ⊥) → Running file from height size (set table code 1) (n + 1) end
     run-on f l u = record { run = on; marked = marked-more code cs table l (so .marked); same = length-set table code 1 ∙ so .same }
@@ -264,18 +294,38 @@ module _ (file : List ℕ) (from height size n at : ℕ) (table : List ℕ) (so 
         good = rw (test, ne-eqb (getD table code 0) 1 u, lt-ltb n 256 (omega (arith, run .most)))
 
         fault : (ns : List ℕ) → faultFrom ns (After height []) (piecesAt file from) ≡ faultFrom ns (After height (code ∷ cs)) (piecesAt file end)
-        fault ns = run .fault ns ∙ rw next (fault-char ns (After height cs) at (here .kind) body (piecesAt file end) code (here .number) (not-font ns (here .kind) body no-font) good)
+        fault ns =
+            run .fault ns
+            ∙ rw next
+            (fault-char ns (After height cs) at (here .kind) body (piecesAt file end) code (here .number) (not-font ns (here .kind) body no-font) good)
 
         count : length (charactersOf (piecesAt file from)) ≡ n + 1 + length (charactersOf (piecesAt file end))
         count =
-            let step : length (charactersOf (piecesAt file at)) ≡ suc (length (charactersOf (piecesAt file end))) = rw next (count-char at (here .kind) body (piecesAt file end) (here .is-kind)) in
+            let step : length (charactersOf (piecesAt file at)) ≡ suc (length (charactersOf (piecesAt file end))) =
+            rw next (count-char at (here .kind) body (piecesAt file end) (here .is-kind)) in
             omega (arith, run .count)
 
         fonts : fontsOf (piecesAt file from) ≡ fontsOf (piecesAt file end)
         fonts = run .fonts ∙ rw next (fonts-other at (here .kind) body (piecesAt file end) no-font)
 
         on : Run file from height (n + 1) end
-        on = record { cs = code ∷ cs; few = omega (arith, run .few); most = omega (arith, run .most); onward = omega (arith, run .onward, head-start file at (here .kind) (here .start) end (here .head), head-from file at (here .kind) (here .start) end (here .head)); inside = head-to file at (here .kind) (here .start) end (here .head); fault = fault; count = count; fonts = fonts }
+        on =
+            record {
+              cs = code ∷ cs;
+              few = omega (arith, run .few);
+              most = omega (arith, run .most);
+              onward =
+                  omega (
+                    arith,
+                    run .onward,
+                    head-start file at (here .kind) (here .start) end (here .head),
+                    head-from file at (here .kind) (here .start) end (here .head),
+                  );
+              inside = head-to file at (here .kind) (here .start) end (here .head);
+              fault = fault;
+              count = count;
+              fonts = fonts;
+            }
 
     bad : isCharacter (After height cs) (here .kind) body ≡ false → RowIn file from height size (row n at false)
     bad e = ended (rw next (stops-here (After height cs) at (here .kind) body (piecesAt file end) e))
@@ -293,7 +343,8 @@ module _ (file : List ℕ) (from height size n at : ℕ) (table : List ℕ) (so 
   unfolding charAt charIn
   ran-other s p q h = ended (go (headAt file at) refl (sym p ∙ q))
     where
-      inner : (kind start end : ℕ) (t : Bool) → headAt file at ≡ Whole kind start end → charShape height kind (part file start end) ≡ t → pick t (Code (littleAt 2 0 (part file start end)) end) Other ≡ Other → stops (After height cs) (piecesAt file at) ≡ true
+      inner : (kind start end : ℕ) (t : Bool) → headAt file at ≡ Whole kind start end → charShape height kind (part file start end) ≡ t
+          → pick t (Code (littleAt 2 0 (part file start end)) end) Other ≡ Other → stops (After height cs) (piecesAt file at) ≡ true
       inner kind start end true d e f = never (let z : _≡_ {A = ℕ} 0 1 = cc in z)
       inner kind start end false d e f =
           let no : isCharacter (After height cs) kind (part file start end) ≡ false = rw (character-is height kind cs (part file start end), e) in

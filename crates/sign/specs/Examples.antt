@@ -24,8 +24,33 @@ b = 9 ∷ 0 ∷ 3 ∷ 0 ∷ 66 ∷ 0 ∷ 6 ∷ 0 ∷ 0 ∷ 0 ∷ 0 ∷ 0 ∷ 0 �
 bracket : List ℕ
 bracket = 6 ∷ 0 ∷ 3 ∷ 0 ∷ 91 ∷ 0 ∷ 3 ∷ 0 ∷ 0 ∷ 0 ∷ []
 
-board-p : signFile (config ++ font 1 ++ a ++ b ++ bracket) ≡ Accepted (record { width = 50; height = 24; «char_width» = 0; «char_height» = 0; font = 1; «line_just» = 2; «page_just» = 2; «on_time» = 30; «off_time» = 0; tags = 134233320 }) (record { number = 1; height = 7; charSpacing = 2; lineSpacing = 3; version = 0; first = 29; characters = record { number = 65; width = 5; bitmap = 36 } ∷ record { number = 66; width = 6; bitmap = 48 } ∷ record { number = 91; width = 3; bitmap = 61 } ∷ [] } ∷ [])
-unfolding signFile fault firstFault faultFrom isCharacter bitmapLen isFont member configIn fontsOf charactersOf isConfig configOk tagsOk bitsOk notZero justOk sizeOk configOf pieces cutFrom restLen firstPiece whole kindOf bodyLen littleAt config font a b bracket
+board-p : signFile (config ++ font 1 ++ a ++ b ++ bracket)
+    ≡ Accepted
+    (record {
+      width = 50;
+      height = 24;
+      «char_width» = 0;
+      «char_height» = 0;
+      font = 1;
+      «line_just» = 2;
+      «page_just» = 2;
+      «on_time» = 30;
+      «off_time» = 0;
+      tags = 134233320;
+    })
+    (record {
+      number = 1;
+      height = 7;
+      charSpacing = 2;
+      lineSpacing = 3;
+      version = 0;
+      first = 29;
+      characters =
+          record { number = 65; width = 5; bitmap = 36 } ∷ record { number = 66; width = 6; bitmap = 48 }
+          ∷ record { number = 91; width = 3; bitmap = 61 } ∷ [];
+    } ∷ [])
+unfolding signFile fault firstFault faultFrom isCharacter bitmapLen isFont member configIn fontsOf charactersOf isConfig configOk tagsOk bitsOk
+    notZero justOk sizeOk configOf pieces cutFrom restLen firstPiece whole kindOf bodyLen littleAt config font a b bracket
 board-p = refl
 
 -- fonts n, .., 2, 1
@@ -35,8 +60,15 @@ fonts (suc n) = font (suc n) ++ fonts n
 
 -- no font and two fonts; then empty, cut in a header, in a body and in a second header, no kind 1 first, kind 1 twice,
 -- a character before a font, a font twice, a character twice, a bitmap one byte short and one long, kind 4; 24 fonts and 25
-faults : map fault (config ∷ (config ++ font 1 ++ a ++ font 2 ++ a) ∷ [] ∷ take 3 config ∷ take 18 config ∷ (config ++ take 2 (font 1)) ∷ font 1 ∷ (config ++ config) ∷ (config ++ a) ∷ (config ++ font 1 ++ a ++ font 1) ∷ (config ++ font 1 ++ a ++ b ++ a) ∷ (config ++ font 1 ++ 7 ∷ 0 ∷ 3 ∷ 0 ∷ 65 ∷ 0 ∷ 5 ∷ 0 ∷ 0 ∷ 0 ∷ 0 ∷ []) ∷ (config ++ font 1 ++ 9 ∷ 0 ∷ 3 ∷ 0 ∷ 65 ∷ 0 ∷ 5 ∷ 0 ∷ 0 ∷ 0 ∷ 0 ∷ 0 ∷ 0 ∷ []) ∷ (config ++ 0 ∷ 0 ∷ 4 ∷ 0 ∷ []) ∷ (config ++ fonts 24) ∷ (config ++ fonts 25) ∷ []) ≡ Fine ∷ Fine ∷ FailsAt 0 ∷ FailsAt 0 ∷ FailsAt 0 ∷ FailsAt 19 ∷ FailsAt 0 ∷ FailsAt 19 ∷ FailsAt 19 ∷ FailsAt 41 ∷ FailsAt 54 ∷ FailsAt 29 ∷ FailsAt 29 ∷ FailsAt 19 ∷ Fine ∷ FailsAt 259 ∷ []
-unfolding fault firstFault faultFrom isCharacter bitmapLen isFont member isConfig configOk tagsOk bitsOk notZero justOk sizeOk configOf pieces cutFrom restLen firstPiece whole kindOf bodyLen littleAt config font a b fonts
+faults : map fault
+    (config ∷ (config ++ font 1 ++ a ++ font 2 ++ a) ∷ [] ∷ take 3 config ∷ take 18 config ∷ (config ++ take 2 (font 1)) ∷ font 1
+    ∷ (config ++ config) ∷ (config ++ a) ∷ (config ++ font 1 ++ a ++ font 1) ∷ (config ++ font 1 ++ a ++ b ++ a)
+    ∷ (config ++ font 1 ++ 7 ∷ 0 ∷ 3 ∷ 0 ∷ 65 ∷ 0 ∷ 5 ∷ 0 ∷ 0 ∷ 0 ∷ 0 ∷ [])
+    ∷ (config ++ font 1 ++ 9 ∷ 0 ∷ 3 ∷ 0 ∷ 65 ∷ 0 ∷ 5 ∷ 0 ∷ 0 ∷ 0 ∷ 0 ∷ 0 ∷ 0 ∷ []) ∷ (config ++ 0 ∷ 0 ∷ 4 ∷ 0 ∷ []) ∷ (config ++ fonts 24)
+    ∷ (config ++ fonts 25) ∷ []) ≡ Fine ∷ Fine ∷ FailsAt 0 ∷ FailsAt 0 ∷ FailsAt 0 ∷ FailsAt 19 ∷ FailsAt 0 ∷ FailsAt 19 ∷ FailsAt 19
+    ∷ FailsAt 41 ∷ FailsAt 54 ∷ FailsAt 29 ∷ FailsAt 29 ∷ FailsAt 19 ∷ Fine ∷ FailsAt 259 ∷ []
+unfolding fault firstFault faultFrom isCharacter bitmapLen isFont member isConfig configOk tagsOk bitsOk notZero justOk sizeOk configOf pieces cutFrom
+    restLen firstPiece whole kindOf bodyLen littleAt config font a b fonts
 faults = refl
 
 -- characters n, .., 2, 1 of width 0
@@ -46,5 +78,6 @@ characters (suc n) = 3 ∷ 0 ∷ 3 ∷ 0 ∷ suc n % 256 ∷ suc n / 256 ∷ 0 �
 
 -- 256 characters, and 257
 counts : map fault ((config ++ font 1 ++ characters 256) ∷ (config ++ font 1 ++ characters 257) ∷ []) ≡ Fine ∷ FailsAt 1821 ∷ []
-unfolding fault firstFault faultFrom isCharacter bitmapLen isFont member isConfig configOk tagsOk bitsOk notZero justOk sizeOk configOf pieces cutFrom restLen firstPiece whole kindOf bodyLen littleAt config font characters
+unfolding fault firstFault faultFrom isCharacter bitmapLen isFont member isConfig configOk tagsOk bitsOk notZero justOk sizeOk configOf pieces cutFrom
+    restLen firstPiece whole kindOf bodyLen littleAt config font characters
 counts = refl

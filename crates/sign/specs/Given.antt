@@ -10,7 +10,16 @@ use Rattle.sign.specs.declared.SignFile.{SignFile}
 
 -- a font's entry in the table: its values, where its characters start, and how many they are
 abbrev pub entryOf : Font → FontEntry
-entryOf f = record { number = f .number; height = f .height; «char_spacing» = f .charSpacing; «line_spacing» = f .lineSpacing; «version_id» = f .version; first = f .first; characters = length (f .characters) }
+entryOf f =
+    record {
+      number = f .number;
+      height = f .height;
+      «char_spacing» = f .charSpacing;
+      «line_spacing» = f .lineSpacing;
+      «version_id» = f .version;
+      first = f .first;
+      characters = length (f .characters);
+    }
 
 -- n places of the table without a font
 unfoldable pub noFonts : ℕ → List FontEntry
@@ -18,7 +27,19 @@ noFonts zero = []
 noFonts (suc n) = record { number = 0; height = 0; «char_spacing» = 0; «line_spacing» = 0; «version_id» = 0; first = 0; characters = 0 } ∷ noFonts n
 
 unfoldable pub noConfig : Config
-noConfig = record { width = 0; height = 0; «char_width» = 0; «char_height» = 0; font = 0; «line_just» = 0; «page_just» = 0; «on_time» = 0; «off_time» = 0; tags = 0 }
+noConfig =
+    record {
+      width = 0;
+      height = 0;
+      «char_width» = 0;
+      «char_height» = 0;
+      font = 0;
+      «line_just» = 0;
+      «page_just» = 0;
+      «on_time» = 0;
+      «off_time» = 0;
+      tags = 0;
+    }
 
 -- an accepted file: its fonts stand first in the table
 unfoldable pub contentOf : Config → List Font → SignFile

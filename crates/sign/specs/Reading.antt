@@ -23,13 +23,31 @@ use Rattle.sign.specs.declared.SignFile.{SignFile}
 
 -- a font's entry, from its record's body, and with its count of characters
 abbrev pub entryWith : List ℕ → ℕ → ℕ → ℕ → FontEntry
-entryWith body version first n = record { number = getD body 0 0; height = getD body 1 0; «char_spacing» = getD body 2 0; «line_spacing» = getD body 3 0; «version_id» = version; first = first; characters = n }
+entryWith body version first n =
+    record {
+      number = getD body 0 0;
+      height = getD body 1 0;
+      «char_spacing» = getD body 2 0;
+      «line_spacing» = getD body 3 0;
+      «version_id» = version;
+      first = first;
+      characters = n;
+    }
 
 unfoldable pub fontEntry : List ℕ → ℕ → FontEntry
 fontEntry body first = entryWith body (littleAt 2 4 body) first 0
 
 abbrev pub filled : FontEntry → ℕ → FontEntry
-filled f n = record { number = f .number; height = f .height; «char_spacing» = f .«char_spacing»; «line_spacing» = f .«line_spacing»; «version_id» = f .«version_id»; first = f .first; characters = n }
+filled f n =
+    record {
+      number = f .number;
+      height = f .height;
+      «char_spacing» = f .«char_spacing»;
+      «line_spacing» = f .«line_spacing»;
+      «version_id» = f .«version_id»;
+      first = f .first;
+      characters = n;
+    }
 
 -- what is given of the records from an offset on, after the configuration
 unfoldable pub givenFrom : List ℕ → ℕ → Config → SignFile
@@ -109,7 +127,7 @@ pub record RowIn (file : List ℕ) (from height size : ℕ) (r : Row) : Type 0 w
 -- count fonts were read, from an offset on, and the next record is at `at`: ns are their numbers
 pub record Reading (file : List ℕ) (from : ℕ) (used : List ℕ) (fonts : List FontEntry) (count at : ℕ) : Type 0 where
   pub ns : List ℕ
-  pub before : Before
+  pub prior : Before
   pub few : length ns ≡ count
   pub most : count ≤ 24
   pub inside : at ≤ length file
@@ -117,6 +135,7 @@ pub record Reading (file : List ℕ) (from : ℕ) (used : List ℕ) (fonts : Lis
   pub fonts-size : length fonts ≡ 24
   pub unused : drop count fonts ≡ noFonts (24 - count)
   pub marked : Marked ns used
-  pub stop : stops before (piecesAt file at) ≡ true
-  pub fault : faultFrom [] NoFont (piecesAt file from) ≡ faultFrom ns before (piecesAt file at)
-  pub listed : faultFrom ns before (piecesAt file at) ≡ Fine → map entryOf (fontsOf (piecesAt file from)) ≡ take count fonts ++ map entryOf (fontsOf (piecesAt file at))
+  pub stop : stops prior (piecesAt file at) ≡ true
+  pub fault : faultFrom [] NoFont (piecesAt file from) ≡ faultFrom ns prior (piecesAt file at)
+  pub listed : faultFrom ns prior (piecesAt file at) ≡ Fine
+      → map entryOf (fontsOf (piecesAt file from)) ≡ take count fonts ++ map entryOf (fontsOf (piecesAt file at))

@@ -33,7 +33,16 @@ characterOf at body = record { number = littleAt 2 0 body; width = getD body 2 0
 
 -- "6 bytes: number, height .., character spacing, line spacing, version id (16 bits ..)"
 abbrev pub fontOf : ℕ → List ℕ → List Character → Font
-fontOf at body cs = record { number = getD body 0 0; height = getD body 1 0; charSpacing = getD body 2 0; lineSpacing = getD body 3 0; version = littleAt 2 4 body; first = at + 4 + length body; characters = cs }
+fontOf at body cs =
+    record {
+      number = getD body 0 0;
+      height = getD body 1 0;
+      charSpacing = getD body 2 0;
+      lineSpacing = getD body 3 0;
+      version = littleAt 2 4 body;
+      first = at + 4 + length body;
+      characters = cs;
+    }
 
 -- "a character of the font before it": the records of kind 3 up to the first of another kind
 unfoldable pub charactersOf : List Piece → List Character
@@ -79,7 +88,9 @@ bitmapLen width height = (width * height + 7) / 8
 unfoldable pub isCharacter : Before → ℕ → List ℕ → Bool
 isCharacter NoFont kind body = false
 isCharacter (After height cs) kind body =
-    all (eqb kind 3 ∷ eqb (length body) (3 + bitmapLen (getD body 2 0) height) ∷ notZero (littleAt 2 0 body) ∷ not (member (littleAt 2 0 body) cs) ∷ ltb (length cs) 256 ∷ [])
+    all
+    (eqb kind 3 ∷ eqb (length body) (3 + bitmapLen (getD body 2 0) height) ∷ notZero (littleAt 2 0 body) ∷ not (member (littleAt 2 0 body) cs)
+    ∷ ltb (length cs) 256 ∷ [])
 
 -- one character more
 abbrev pub adding : ℕ → Before → Before

@@ -64,7 +64,8 @@ colorForeground p = pick (eqb (length p) 0) (Good (ColorForeground NoColor)) (co
 
 -- [cb], [cbn]: 8 bits; as multi.rs says, NTCIP 1203 has "a numeric value between 0 and 999"
 unfoldable pub colorBackground : List ℕ → Parsed
-colorBackground p = pick (eqb (length p) 0) (Good (ColorBackground NoColor)) (number (readNumber 10 255 p) Bad λ n. Good (ColorBackground (SomeColor (Legacy n))))
+colorBackground p =
+    pick (eqb (length p) 0) (Good (ColorBackground NoColor)) (number (readNumber 10 255 p) Bad λ n. Good (ColorBackground (SomeColor (Legacy n))))
 
 -- the first four parts of p, and the parts after them
 unfoldable pub fourOf : List ℕ → ReadRectangle

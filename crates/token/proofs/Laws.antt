@@ -191,7 +191,8 @@ cuts-skip at zero l = rw add-zero
 cuts-skip at (suc k) [] = refl
 cuts-skip at (suc k) (b ∷ l) = cuts-skip (suc at) k l ∙ ap (λ (n : ℕ). cuts n 0 (drop k l)) (omega arith)
 
-cuts-head : (at : ℕ) (l : List ℕ) → 0 < length l → cuts at 0 l ≡ record { start = at; bytes = take (sliceLen l) l } ∷ cuts (at + sliceLen l) 0 (drop (sliceLen l) l)
+cuts-head : (at : ℕ) (l : List ℕ) → 0 < length l
+    → cuts at 0 l ≡ record { start = at; bytes = take (sliceLen l) l } ∷ cuts (at + sliceLen l) 0 (drop (sliceLen l) l)
 unfolding sliceLen
 cuts-head at [] h = absurd (omega arith)
 cuts-head at (b ∷ l) h =

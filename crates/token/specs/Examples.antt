@@ -29,4 +29,4 @@ pub record Examples : Type 0 where
 
 pub examples : Examples
 unfolding plainLen tagLen restLen slices isPair lastByte shapeOf
-examples = record { empty = refl; opens = refl; close = refl; closes = refl; again = refl; stray = refl; ends = refl; three = refl; page = refl; is-bracket = refl; is-tag = refl; is-open = refl; is-close = refl; is-cut = refl; is-text = refl }
+examples = search

@@ -142,11 +142,16 @@ module _ (l : List ℕ) (at : ℕ) where
       module _ (g : 224 ≤ b) (y : ℕ) (q : y ≡ bits l (at + 2)) where
         pub code-3 : b < 240 → coded ((b % 16 * 64 + x) * 64 + y) 3 ≡ codeAt l at
         unfolding codeOf
-        code-3 h = code-is b _ 2 e (rw (← bits-from 0 (at + 1) (omega arith), ← p, ← bits-from 1 (at + 2) (omega arith), ← q) (search picks depth 8)) (extra-3 b f g h)
+        code-3 h =
+            code-is b _ 2 e (rw (← bits-from 0 (at + 1) (omega arith), ← p, ← bits-from 1 (at + 2) (omega arith), ← q) (search picks depth 8))
+            (extra-3 b f g h)
 
         pub code-4 : (z : ℕ) → z ≡ bits l (at + 3) → 240 ≤ b → coded (((b % 8 * 64 + x) * 64 + y) * 64 + z) 4 ≡ codeAt l at
         unfolding codeOf
-        code-4 z r h = code-is b _ 3 e (rw (← bits-from 0 (at + 1) (omega arith), ← p, ← bits-from 1 (at + 2) (omega arith), ← q, ← bits-from 2 (at + 3) (omega arith), ← r) (search picks depth 8)) (extra-4 b f g h)
+        code-4 z r h =
+            code-is b _ 3 e
+            (rw (← bits-from 0 (at + 1) (omega arith), ← p, ← bits-from 1 (at + 2) (omega arith), ← q, ← bits-from 2 (at + 3) (omega arith), ← r)
+            (search picks depth 8)) (extra-4 b f g h)
 
 pub ruleset code-ways = (code-out, code-1, code-2, code-3, code-4)
 

@@ -70,7 +70,8 @@ unfolding wellFormed wellFormedFrom fits after
 head-formed b l w = both _ _ w
 
 -- a byte that was due
-step-due : (k lo hi b : ℕ) (l : List ℕ) → wellFormedFrom (due (suc k) lo hi) (b ∷ l) ≡ pick (pick (ltb b lo) false (leb b hi)) (wellFormedFrom (due k 128 191) l) false
+step-due : (k lo hi b : ℕ) (l : List ℕ)
+    → wellFormedFrom (due (suc k) lo hi) (b ∷ l) ≡ pick (pick (ltb b lo) false (leb b hi)) (wellFormedFrom (due k 128 191) l) false
 unfolding wellFormedFrom fits after
 step-due k lo hi b l =
     let e : suc k - 1 ≡ k = omega arith in
@@ -173,7 +174,8 @@ after-ranged d b = go (eqb (d .left) 0)
     go false = (omega arith, omega arith)
 
 -- where a text goes on with a byte that starts a character, or ends, nothing is due
-seam : (k lo hi : ℕ) → 128 ≤ lo → hi ≤ 191 → (b : List ℕ) → insideCharacter b 0 ≡ false → wellFormedFrom (due k lo hi) b ≡ true → (eqb k 0 ≡ true) × (wellFormed b ≡ true)
+seam : (k lo hi : ℕ) → 128 ≤ lo → hi ≤ 191 → (b : List ℕ) → insideCharacter b 0 ≡ false → wellFormedFrom (due k lo hi) b ≡ true
+    → (eqb k 0 ≡ true) × (wellFormed b ≡ true)
 unfolding insideCharacter
 seam zero lo hi g h b s w = (refl, sym (start-same lo hi b) ∙ w)
 seam (suc k) lo hi g h [] s w = absurd (omega (arith, ended (suc k) lo hi w))
@@ -181,7 +183,8 @@ seam (suc k) lo hi g h (c ∷ b) s w =
     let r = next-formed k lo hi c b w in
     never (sym s ∙ in-range c (omega arith) (omega arith))
 
-cut-from : (d : Due) → Ranged d → (a b : List ℕ) → insideCharacter b 0 ≡ false → wellFormedFrom d (a ++ b) ≡ true → (wellFormedFrom d a ≡ true) × (wellFormed b ≡ true)
+cut-from : (d : Due) → Ranged d → (a b : List ℕ) → insideCharacter b 0 ≡ false → wellFormedFrom d (a ++ b) ≡ true
+    → (wellFormedFrom d a ≡ true) × (wellFormed b ≡ true)
 unfolding wellFormedFrom Ranged
 cut-from d r [] b s w = seam (d .left) (d .low) (d .high) (r .0) (r .1) b s w
 cut-from d r (x ∷ a) b s w =
@@ -225,7 +228,10 @@ pub code-lt : (b : ℕ) (l : List ℕ) → codeOf b l < 2097152
 unfolding codeOf
 code-lt b l = go (ltb b 192) refl (ltb b 224) (ltb b 240)
   where
-    go : (t : Bool) → ltb b 192 ≡ t → (u v : Bool) → pick t b (pick u (b % 32 * 64 + bits l 0) (pick v ((b % 16 * 64 + bits l 0) * 64 + bits l 1) (((b % 8 * 64 + bits l 0) * 64 + bits l 1) * 64 + bits l 2))) < 2097152
+    go : (t : Bool) → ltb b 192 ≡ t → (u v : Bool)
+        → pick t b
+        (pick u (b % 32 * 64 + bits l 0) (pick v ((b % 16 * 64 + bits l 0) * 64 + bits l 1) (((b % 8 * 64 + bits l 0) * 64 + bits l 1) * 64 + bits l 2)))
+        < 2097152
     go true e u v = omega (arith, ltb-true b 192 e)
     go false e true v = omega arith
     go false e false true = omega arith
@@ -278,7 +284,11 @@ char-scalar b l w = go (ltb b 192) refl (ltb b 224) refl (ltb b 240) refl
     range : 0 < extra b → (low b ≤ getD l 0 0) × (getD l 0 0 ≤ high b)
     range p = second-due (extra b) (low b) (high b) l p (head-formed b l w .1)
 
-    go : (t : Bool) → ltb b 192 ≡ t → (u : Bool) → ltb b 224 ≡ u → (v : Bool) → ltb b 240 ≡ v → Scalar (pick t b (pick u (b % 32 * 64 + bits l 0) (pick v ((b % 16 * 64 + bits l 0) * 64 + bits l 1) (((b % 8 * 64 + bits l 0) * 64 + bits l 1) * 64 + bits l 2))))
+    go : (t : Bool) → ltb b 192 ≡ t → (u : Bool) → ltb b 224 ≡ u → (v : Bool) → ltb b 240 ≡ v
+        → Scalar
+        (pick t b
+        (pick u (b % 32 * 64 + bits l 0)
+        (pick v ((b % 16 * 64 + bits l 0) * 64 + bits l 1) (((b % 8 * 64 + bits l 0) * 64 + bits l 1) * 64 + bits l 2))))
     go true e u f v g = omega (arith, ltb-true b 192 e)
     go false e true f v g = omega arith
     go false e false f true g =

@@ -11,5 +11,5 @@ color-spec =
     (λ c κs. search needs)  -- green-requires
     (λ c κs. search needs)  -- blue-requires
     (λ c. search needs)  -- enum-told
-    (λ c. rw (c .before .before .before .before .before .v .given .1) (cc))  -- returns
+    (λ c. let t : tie.After-v = search in rw (t .v .given .1) (cc))  -- returns
     (λ c. rw (c .enum-told .given .1)))  -- returns-2

@@ -10,5 +10,5 @@ font-spec =
     (λ c κs. search needs)  -- flag-requires
     (λ c κs. search needs)  -- given-requires
     (λ c. search needs)  -- enum-told
-    (λ c. rw (c .before .before .before .before .v .given .1) (cc))  -- returns
+    (λ c. let t : tie.After-v = search in rw (t .v .given .1) (cc))  -- returns
     (λ c. rw (c .enum-told .given .1)))  -- returns-2

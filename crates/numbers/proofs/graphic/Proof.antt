@@ -13,5 +13,5 @@ graphic-spec =
     (λ c κs. search needs)  -- given-requires
     (λ c. search needs)  -- enum-told
     (λ c κs. search needs)  -- wide32-requires-2
-    (λ c. rw (c .before .before .before .before .v .given .1) (cc))  -- returns
-    (λ c. rw (c .before .enum-told .given .1) (cc)))  -- returns-2
+    (λ c. let t : tie.After-v = search in rw (t .v .given .1) (cc))  -- returns
+    (λ c. let t : tie.After-enum-told = search in rw (t .enum-told .given .1) (cc)))  -- returns-2

@@ -1,6 +1,14 @@
+use mathlib.Core.Path.{_≡_}
 use borrow.Author.Needs.{needs}
+use Rattle.value.specs.declared.Value.{Value}
+use Rattle.numbers.specs.declared.Numbers.{Numbers}
+use Rattle.numbers.specs.Numbers.{numbersOf}
 use Rattle.numbers.proofs.numbers_of.Statement.{statement}
 use Rattle.numbers.proofs.numbers_of.Tie as tie
+
+-- the numbers of a value that is known
+told : (r : Numbers) (v w : Value) → v ≡ w → r ≡ numbersOf w → r ≡ numbersOf v
+told r v w e f = rw e f
 
 pub numbers-of-spec : {M : Type 1} → statement M
 numbers-of-spec =
@@ -50,25 +58,25 @@ numbers-of-spec =
     (λ c κs. search needs)  -- text-requires
     (λ c. search needs)  -- enum-known-v-19
     (λ c κs. search needs)  -- rectangle-requires
-    (λ c. rw (c .before .before .v .given .1) (c .color .ensures))  -- returns
-    (λ c. rw (c .before .before .v2 .given .1) (c .color2 .ensures))  -- returns-2
-    (λ c. rw (c .before .before .v3 .given .1) (c .color-rectangle .ensures))  -- returns-3
-    (λ c. rw (c .before .before .v4 .given .1) (c .field .ensures))  -- returns-4
-    (λ c. rw (c .before .before .v5 .given .1) (c .flash .ensures))  -- returns-5
-    (λ c. rw (c .before .enum-told .given .1) (c .one .ensures))  -- returns-6
-    (λ c. rw (c .before .before .v6 .given .1) (c .font .ensures))  -- returns-7
-    (λ c. rw (c .before .before .v7 .given .1) (c .graphic .ensures))  -- returns-8
-    (λ c. rw (c .before .before .v8 .given .1) (c .one2 .ensures))  -- returns-9
-    (λ c. rw (c .before .before .v9 .given .1) (c .number .ensures))  -- returns-10
-    (λ c. rw (c .before .before .v10 .given .1) (c .number2 .ensures))  -- returns-11
-    (λ c. rw (c .before .before .v11 .given .1) (c .specific .ensures))  -- returns-12
-    (λ c. rw (c .before .before .v12 .given .1) (c .specific2 .ensures))  -- returns-13
-    (λ c. rw (c .before .before .v13 .given .1) (c .moving .ensures))  -- returns-14
-    (λ c. rw (c .before .before .v14 .given .1) (c .number3 .ensures))  -- returns-15
-    (λ c. rw (c .before .enum-told2 .given .1) (c .one3 .ensures))  -- returns-16
-    (λ c. rw (c .before .before .v15 .given .1) (c .color3 .ensures))  -- returns-17
-    (λ c. rw (c .before .before .v16 .given .1) (c .times .ensures))  -- returns-18
-    (λ c. rw (c .before .before .v17 .given .1) (c .spacing .ensures))  -- returns-19
-    (λ c. rw (c .before .enum-told3 .given .1) (c .one4 .ensures))  -- returns-20
-    (λ c. rw (c .before .before .v18 .given .1) (c .text .ensures))  -- returns-21
-    (λ c. rw (c .before .before .v19 .given .1) (c .rectangle .ensures)))  -- returns-22
+    (λ c. search told)  -- returns
+    (λ c. search told)  -- returns-2
+    (λ c. search told)  -- returns-3
+    (λ c. search told)  -- returns-4
+    (λ c. search told)  -- returns-5
+    (λ c. search told)  -- returns-6
+    (λ c. search told)  -- returns-7
+    (λ c. search told)  -- returns-8
+    (λ c. search told)  -- returns-9
+    (λ c. search told)  -- returns-10
+    (λ c. search told)  -- returns-11
+    (λ c. search told)  -- returns-12
+    (λ c. search told)  -- returns-13
+    (λ c. search told)  -- returns-14
+    (λ c. search told)  -- returns-15
+    (λ c. search told)  -- returns-16
+    (λ c. search told)  -- returns-17
+    (λ c. search told)  -- returns-18
+    (λ c. search told)  -- returns-19
+    (λ c. search told)  -- returns-20
+    (λ c. search told)  -- returns-21
+    (λ c. search told))  -- returns-22

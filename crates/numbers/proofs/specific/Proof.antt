@@ -9,5 +9,5 @@ specific-spec =
     (λ c. search needs)  -- cast-t6
     (λ c. search needs)  -- cast-t7
     (λ c. search needs)  -- enum-told
-    (λ c. rw (c .before .before .before .v .given .1) (cc))  -- returns
+    (λ c. let t : tie.After-v = search in rw (t .v .given .1) (cc))  -- returns
     (λ c. rw (c .enum-told .given .1)))  -- returns-2

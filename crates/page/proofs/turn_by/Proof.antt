@@ -1,4 +1,5 @@
 use borrow.Author.Needs.{needs}
+use Rattle.page.proofs.Laws.{turns}
 use Rattle.page.proofs.turn_by.Statement.{statement}
 use Rattle.page.proofs.turn_by.Tie as tie
 
@@ -13,7 +14,7 @@ turn-by-spec =
     (λ c. search needs)  -- cast-given-2
     (λ c κs. search needs)  -- given-requires-2
     (λ c. search needs)  -- enum-known-m-2
-    (λ c. rw (c .enum-told .given .1))  -- returns
-    (λ c. rw (c .enum-told2 .given .1))  -- returns-2
-    (λ c. rw (c .before .before .before .before .before .m .given .1) (cc))  -- returns-3
-    (λ c. rw (c .before .m2 .given .1)))  -- returns-4
+    (λ c. search turns)  -- returns
+    (λ c. search turns)  -- returns-2
+    (λ c. search turns)  -- returns-3
+    (λ c. search turns))  -- returns-4

@@ -1,6 +1,16 @@
+use Prim.Native.Nat.{ℕ}
+use mathlib.Core.Path.{_≡_}
+use mathlib.Core.List.{List}
 use borrow.Author.Needs.{needs}
+use Rattle.tag.specs.declared.Parsed.{Parsed}
+use Rattle.parse.specs.declared.Name.{Name}
+use Rattle.parse.specs.Parse.{byName}
 use Rattle.parse.proofs.by_name.Statement.{statement}
 use Rattle.parse.proofs.by_name.Tie as tie
+
+-- the value of a tag whose name is known
+told : (r : Parsed) (n m : Name) (end : ℕ) (p : List ℕ) → n ≡ m → r ≡ byName m end p → r ≡ byName n end p
+told r n m end p e f = rw e f
 
 pub by-name-spec : {M : Type 1} → statement M
 by-name-spec =
@@ -48,25 +58,25 @@ by-name-spec =
     (λ c. search needs)  -- enum-told-21
     (λ c κs. search needs)  -- parse-text-rectangle-requires
     (λ c. search needs)  -- enum-told-22
-    (λ c. rw (c .before .enum-told .given .1) (c .parse-color-background .ensures))  -- returns
-    (λ c. rw (c .before .enum-told2 .given .1) (c .parse-color-foreground .ensures))  -- returns-2
-    (λ c. rw (c .before .enum-told3 .given .1) (c .parse-color-rectangle .ensures))  -- returns-3
-    (λ c. rw (c .before .enum-told4 .given .1) (c .parse-field .ensures))  -- returns-4
-    (λ c. rw (c .before .enum-told5 .given .1) (c .parse-flash-time .ensures))  -- returns-5
-    (λ c. rw (c .before .enum-told6 .given .1) (c .parse-flash-end .ensures))  -- returns-6
-    (λ c. rw (c .before .enum-told7 .given .1) (c .parse-font .ensures))  -- returns-7
-    (λ c. rw (c .before .enum-told8 .given .1) (c .parse-graphic .ensures))  -- returns-8
-    (λ c. rw (c .before .enum-told9 .given .1) (c .parse-hexadecimal-character .ensures))  -- returns-9
-    (λ c. rw (c .before .enum-told10 .given .1) (c .parse-justification-line .ensures))  -- returns-10
-    (λ c. rw (c .before .enum-told11 .given .1) (c .parse-justification-page .ensures))  -- returns-11
-    (λ c. rw (c .before .enum-told12 .given .1) (c .parse-manufacturer-specific .ensures))  -- returns-12
-    (λ c. rw (c .before .enum-told13 .given .1) (c .parse-manufacturer-specific-end .ensures))  -- returns-13
-    (λ c. rw (c .before .enum-told14 .given .1) (c .parse-moving-text .ensures))  -- returns-14
-    (λ c. rw (c .before .enum-told15 .given .1) (c .parse-new-line .ensures))  -- returns-15
-    (λ c. rw (c .before .enum-told16 .given .1) (c .parse-new-page .ensures))  -- returns-16
-    (λ c. rw (c .before .enum-told17 .given .1) (c .parse-page-background .ensures))  -- returns-17
-    (λ c. rw (c .before .enum-told18 .given .1) (c .parse-page-time .ensures))  -- returns-18
-    (λ c. rw (c .before .enum-told19 .given .1) (c .parse-spacing-character .ensures))  -- returns-19
-    (λ c. rw (c .before .enum-told20 .given .1) (c .parse-spacing-character-end .ensures))  -- returns-20
-    (λ c. rw (c .before .enum-told21 .given .1) (c .parse-text-rectangle .ensures))  -- returns-21
+    (λ c. search told)  -- returns
+    (λ c. search told)  -- returns-2
+    (λ c. search told)  -- returns-3
+    (λ c. search told)  -- returns-4
+    (λ c. search told)  -- returns-5
+    (λ c. search told)  -- returns-6
+    (λ c. search told)  -- returns-7
+    (λ c. search told)  -- returns-8
+    (λ c. search told)  -- returns-9
+    (λ c. search told)  -- returns-10
+    (λ c. search told)  -- returns-11
+    (λ c. search told)  -- returns-12
+    (λ c. search told)  -- returns-13
+    (λ c. search told)  -- returns-14
+    (λ c. search told)  -- returns-15
+    (λ c. search told)  -- returns-16
+    (λ c. search told)  -- returns-17
+    (λ c. search told)  -- returns-18
+    (λ c. search told)  -- returns-19
+    (λ c. search told)  -- returns-20
+    (λ c. search told)  -- returns-21
     (λ c. rw (c .enum-told22 .given .1)))  -- returns-22

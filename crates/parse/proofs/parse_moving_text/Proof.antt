@@ -11,8 +11,8 @@ parse-moving-text-spec =
     (λ c κs. search needs)  -- letter-at-requires
     (λ c κs. search needs)  -- tail-requires
     (λ c κs. search (withins, needs) depth 8)  -- parse-moving-text-mode-requires
-    (λ c. unfold movingText in rw (← c .before .tail .ensures) (search (picks, answers) depth 14))  -- returns
+    (λ c. let t : tie.After-tail = search in unfold movingText in rw (← t .tail .ensures) (search (picks, answers) depth 14))  -- returns
     (λ c κs. search needs)  -- tail-requires-2
     (λ c κs. search (withins, needs) depth 8)  -- parse-moving-text-linear-requires
-    (λ c. unfold movingText in rw (← c .before .tail2 .ensures) (search (picks, answers) depth 14))  -- returns-2
+    (λ c. let t : tie.After-tail2 = search in unfold movingText in rw (← t .tail2 .ensures) (search (picks, answers) depth 14))  -- returns-2
     (λ c. unfold movingText in search (picks, answers) depth 14))  -- returns-3

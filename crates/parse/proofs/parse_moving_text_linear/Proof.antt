@@ -11,8 +11,11 @@ parse-moving-text-linear-spec =
     (λ c κs. search needs)  -- byte-at-requires
     (λ c κs. search needs)  -- tail-requires
     (λ c κs. search (withins, needs) depth 8)  -- parse-moving-text-mode-requires
-    (λ c. unfold movingTextLinear in rw (← c .before .before .before .before .byte-at .ensures, ← c .before .tail .ensures) (search (picks, answers) depth 14))  -- returns
+    (λ c.
+    let t : tie.After-byte-at = search in
+    let u : tie.After-tail = search in
+    unfold movingTextLinear in rw (← t .byte-at .ensures, ← u .tail .ensures) (search (picks, answers) depth 14))  -- returns
     (λ c κs. search needs)  -- parse-moving-text-mode-requires-2
-    (λ c. unfold movingTextLinear in rw (← c .before .before .before .byte-at .ensures) (search (picks, answers) depth 14))  -- returns-2
+    (λ c. let t : tie.After-byte-at = search in unfold movingTextLinear in rw (← t .byte-at .ensures) (search (picks, answers) depth 14))  -- returns-2
     (λ c κs. search needs)  -- parse-moving-text-mode-requires-3
-    (λ c. unfold movingTextLinear in rw (← c .before .before .byte-at .ensures) (search (picks, answers) depth 14)))  -- returns-3
+    (λ c. let t : tie.After-byte-at = search in unfold movingTextLinear in rw (← t .byte-at .ensures) (search (picks, answers) depth 14)))  -- returns-3

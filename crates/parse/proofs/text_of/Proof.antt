@@ -14,6 +14,6 @@ text-of-spec =
     (λ c κs. search needs)  -- rest-part-requires
     (λ c. search (withins, needs) depth 6)  -- sub-t6
     (λ c. search needs)  -- cast-t7
-    (λ c. let h : length (c .rest-part .result .now) ≤ c .before .before .before .before .args .end = search (withins, needs) depth 6 in search needs)  -- cast-t8
+    (λ c. let t : tie.Start = search in let h : length (c .rest-part .result .now) ≤ t .args .end = search (withins, needs) depth 6 in search needs)  -- cast-t8
     (λ c. unfold textOf in rw (← c .rest-part .ensures) (search (picks, answers) depth 14))  -- returns
     (λ c. unfold textOf in search (picks, answers) depth 14))  -- returns-2

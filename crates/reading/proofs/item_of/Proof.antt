@@ -14,7 +14,13 @@ item-of-spec =
     (λ c. search needs)  -- enum-told-3
     (λ c. search needs)  -- enum-told-4
     (λ c κs. search needs)  -- text-item-requires
-    (λ c. unfold itemOf in rw (← c .before .before .shape-of .ensures, c .enum-told .given .1))  -- returns
-    (λ c. unfold itemOf in rw (← c .before .before .before .shape-of .ensures, c .before .enum-told2 .given .1) (c .tag-item .ensures))  -- returns-2
-    (λ c. unfold itemOf in rw (← c .before .before .shape-of .ensures, c .enum-told3 .given .1))  -- returns-3
-    (λ c. unfold itemOf in rw (← c .before .before .before .shape-of .ensures, c .before .enum-told4 .given .1) (c .text-item .ensures)))  -- returns-4
+    (λ c. let t : tie.After-shape-of = search in unfold itemOf in rw (← t .shape-of .ensures, c .enum-told .given .1))  -- returns
+    (λ c.
+    let t : tie.After-shape-of = search in
+    let u : tie.After-enum-told2 = search in
+    unfold itemOf in rw (← t .shape-of .ensures, u .enum-told2 .given .1) (c .tag-item .ensures))  -- returns-2
+    (λ c. let t : tie.After-shape-of = search in unfold itemOf in rw (← t .shape-of .ensures, c .enum-told3 .given .1))  -- returns-3
+    (λ c.
+    let t : tie.After-shape-of = search in
+    let u : tie.After-enum-told4 = search in
+    unfold itemOf in rw (← t .shape-of .ensures, u .enum-told4 .given .1) (c .text-item .ensures)))  -- returns-4

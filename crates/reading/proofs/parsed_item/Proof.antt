@@ -8,6 +8,6 @@ parsed-item-spec =
     (λ c. search needs)  -- enum-known-p
     (λ c. search needs)  -- enum-told
     (λ c. search needs)  -- enum-told-2
-    (λ c. rw (c .before .p .given .1))  -- returns
+    (λ c. let t : tie.After-p = search in rw (t .p .given .1))  -- returns
     (λ c. search needs)  -- returns-2
     (λ c. search needs))  -- returns-3

@@ -11,5 +11,11 @@ slice-reading-spec =
     (λ c. search needs)  -- cast-len
     (λ c. search needs)  -- enum-known-item
     (λ c. search needs)  -- enum-known-item-2
-    (λ c. unfold sliceReading in rw (← c .before .before .before .item-of .ensures, c .before .item .given .1))  -- returns
-    (λ c. unfold sliceReading in rw (← c .before .before .before .item-of .ensures, c .before .item2 .given .1)))  -- returns-2
+    (λ c.
+    let t : tie.After-item-of = search in
+    let u : tie.After-item = search in
+    unfold sliceReading in rw (← t .item-of .ensures, u .item .given .1))  -- returns
+    (λ c.
+    let t : tie.After-item-of = search in
+    let u : tie.After-item2 = search in
+    unfold sliceReading in rw (← t .item-of .ensures, u .item2 .given .1)))  -- returns-2

@@ -14,5 +14,5 @@ tag-item-spec =
     (λ c. search needs)  -- add-parse-tag
     (λ c κs. search needs)  -- parse-tag-requires
     (λ c κs. search needs)  -- parsed-item-requires
-    (λ c. unfold tagItem in rw (← c .before .parse-tag .ensures) (search (picks, answers) depth 14))  -- returns
+    (λ c. let t : tie.After-parse-tag = search in unfold tagItem in rw (← t .parse-tag .ensures) (search (picks, answers) depth 14))  -- returns
     (λ c. unfold tagItem in search (picks, answers) depth 14))  -- returns-2

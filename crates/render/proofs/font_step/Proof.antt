@@ -9,5 +9,5 @@ font-step-spec =
     (λ c κs. search needs)  -- with-font-requires
     (λ c. search needs)  -- enum-told
     (λ c κs. search needs)  -- with-font-requires-2
-    (λ c. rw (c .before .before .f .given .1) (c .with-font .ensures))  -- returns
-    (λ c. rw (c .before .enum-told .given .1) (c .with-font2 .ensures)))  -- returns-2
+    (λ c. let t : tie.After-f = search in rw (t .f .given .1) (c .with-font .ensures))  -- returns
+    (λ c. let t : tie.After-enum-told = search in rw (t .enum-told .given .1) (c .with-font2 .ensures)))  -- returns-2

@@ -10,8 +10,8 @@ new-line-step-spec =
     (λ c κs. search needs)  -- given-requires
     (λ c κs. search needs)  -- both-above-requires
     (λ c κs. search needs)  -- refuse-requires
-    (λ c. rw (← c .before .before .before .given .ensures) (search (step-ways, picks, answers, needs) depth 8))  -- returns
+    (λ c. let t : tie.After-given = search in rw (← t .given .ensures) (search (step-ways, picks, answers, needs) depth 8))  -- returns
     (λ c κs. search needs)  -- line-step-requires
-    (λ c. rw (← c .before .before .before .before .before .given .ensures) (search (step-ways, picks, answers, needs) depth 8))  -- returns-2
+    (λ c. let t : tie.After-given = search in rw (← t .given .ensures) (search (step-ways, picks, answers, needs) depth 8))  -- returns-2
     (λ c κs. search needs)  -- refuse-requires-2
-    (λ c. rw (← c .before .before .before .before .before .given .ensures) (search (step-ways, picks, answers, needs) depth 8)))  -- returns-3
+    (λ c. let t : tie.After-given = search in rw (← t .given .ensures) (search (step-ways, picks, answers, needs) depth 8)))  -- returns-3

@@ -1,6 +1,19 @@
+use mathlib.Core.Bool.{Bool}
+use mathlib.Core.Path.{_≡_}
 use borrow.Author.Needs.{needs}
+use Rattle.value.specs.declared.Value.{Value}
+use Rattle.records.specs.declared.Config.{Config}
+use Rattle.layout.specs.declared.RenderState.{RenderState}
+use Rattle.layout.specs.declared.Step.{Step}
+use Rattle.layout.specs.Types.{Item}
+use Rattle.layout.specs.Read.{valueStep}
 use Rattle.render.proofs.step.Statement.{statement}
 use Rattle.render.proofs.step.Tie as tie
+
+-- the step of a value that is known
+told : (r : Step) (v w : Value) (c : Config) (st : RenderState) (blank : Bool) (it : Item)
+    → v ≡ w → r ≡ valueStep c st blank it w → r ≡ valueStep c st blank it v
+told r v w c st blank it e f = rw e f
 
 pub step-spec : {M : Type 1} → statement M
 step-spec =
@@ -36,25 +49,25 @@ step-spec =
     (λ c κs. search needs)  -- text-step-requires
     (λ c. search needs)  -- enum-known-v-8
     (λ c κs. search needs)  -- rect-step-requires
-    (λ c. rw (c .enum-told .given .1))  -- returns
-    (λ c. rw (c .enum-told2 .given .1))  -- returns-2
-    (λ c. rw (c .enum-told3 .given .1))  -- returns-3
-    (λ c. rw (c .enum-told4 .given .1))  -- returns-4
-    (λ c. rw (c .enum-told5 .given .1))  -- returns-5
-    (λ c. rw (c .enum-told6 .given .1))  -- returns-6
-    (λ c. rw (c .before .before .v .given .1) (c .go-font .ensures))  -- returns-7
-    (λ c. rw (c .enum-told7 .given .1))  -- returns-8
-    (λ c. rw (c .before .before .v2 .given .1) (c .hex-step .ensures))  -- returns-9
-    (λ c. rw (c .before .before .v3 .given .1) (c .line-just-step .ensures))  -- returns-10
-    (λ c. rw (c .before .before .v4 .given .1) (c .page-just-step .ensures))  -- returns-11
-    (λ c. rw (c .enum-told8 .given .1))  -- returns-12
-    (λ c. rw (c .enum-told9 .given .1))  -- returns-13
-    (λ c. rw (c .enum-told10 .given .1))  -- returns-14
-    (λ c. rw (c .before .before .v5 .given .1) (c .new-line-step .ensures))  -- returns-15
-    (λ c. rw (c .enum-told11 .given .1))  -- returns-16
-    (λ c. rw (c .enum-told12 .given .1))  -- returns-17
-    (λ c. rw (c .enum-told13 .given .1))  -- returns-18
-    (λ c. rw (c .before .before .v6 .given .1) (c .spacing-step .ensures))  -- returns-19
-    (λ c. rw (c .before .enum-told14 .given .1) (c .end-spacing .ensures))  -- returns-20
-    (λ c. rw (c .before .before .v7 .given .1) (c .text-step .ensures))  -- returns-21
-    (λ c. rw (c .before .before .v8 .given .1) (c .rect-step .ensures)))  -- returns-22
+    (λ c. search told)  -- returns
+    (λ c. search told)  -- returns-2
+    (λ c. search told)  -- returns-3
+    (λ c. search told)  -- returns-4
+    (λ c. search told)  -- returns-5
+    (λ c. search told)  -- returns-6
+    (λ c. search told)  -- returns-7
+    (λ c. search told)  -- returns-8
+    (λ c. search told)  -- returns-9
+    (λ c. search told)  -- returns-10
+    (λ c. search told)  -- returns-11
+    (λ c. search told)  -- returns-12
+    (λ c. search told)  -- returns-13
+    (λ c. search told)  -- returns-14
+    (λ c. search told)  -- returns-15
+    (λ c. search told)  -- returns-16
+    (λ c. search told)  -- returns-17
+    (λ c. search told)  -- returns-18
+    (λ c. search told)  -- returns-19
+    (λ c. search told)  -- returns-20
+    (λ c. search told)  -- returns-21
+    (λ c. search told))  -- returns-22

@@ -1,14 +1,15 @@
 use borrow.Author.Needs.{needs}
 use lib.ListN.{length}
 use mathlib.Core.Path.{_≡_}
-use Rattle.replay_listings.specs.Held.{Held}
-use Rattle.vectors.specs.Text.{Within}
+use Rattle.replay_listings.specs.BothFit.{BothFit}
+use Rattle.replay.specs.Text.{Within}
 use Rattle.replay_listings.proofs.run_all.Statement.{statement}
 use Rattle.replay_listings.proofs.run_all.Tie as tie
 
 abbrev Inv-loop : tie.InvT-loop
 Inv-loop buf₀ file₀ msg₀ out₀ input₀ check₀ turns₀ buf file msg out input check turns =
-    Within (input .window) (length buf) × Held check (length file) (length msg) × (length buf ≡ length buf₀) × (length file ≡ length file₀) × (length msg ≡ length msg₀) × (length out ≡ 30720)
+    Within (input .window) (length buf) × BothFit check (length file) (length msg) × (length buf ≡ length buf₀)
+    × (length file ≡ length file₀) × (length msg ≡ length msg₀) × (length out ≡ 30720)
 
 abbrev μ-loop : tie.MeasureT-loop
 μ-loop buf₀ file₀ msg₀ out₀ input₀ check₀ turns₀ buf file msg out input check turns = turns
@@ -26,17 +27,9 @@ run-all-spec =
     (λ c. search needs)  -- sub-turns
     (λ c. search needs)  -- loop-less
     (λ c. search needs)  -- loop-again
-    (λ c κs. search needs)  -- is-whole-requires
-    (λ c κs. search needs)  -- print-score-requires
-    (λ c κs. search needs)  -- print-endings-requires
+    (λ c κs. search needs)  -- print-all-requires
     (λ c. search needs)  -- same-length
     (λ c. search needs)  -- same-length-2
     (λ c. search needs)  -- same-length-3
     (λ c. search needs)  -- same-length-4
-    (λ c. search needs)  -- returns
-    (λ c κs. search needs)  -- print-bad-requires
-    (λ c. search needs)  -- same-length-5
-    (λ c. search needs)  -- same-length-6
-    (λ c. search needs)  -- same-length-7
-    (λ c. search needs)  -- same-length-8
-    (λ c. search needs))  -- returns-2
+    (λ c. search needs))  -- returns

@@ -2,12 +2,13 @@ use borrow.Author.Needs.{needs}
 use Prim.Native.Nat.{_≤_}
 use lib.ListN.{length}
 use mathlib.Core.Path.{_≡_}
-use Rattle.vectors.specs.Text.{Within}
+use Rattle.replay.specs.Text.{Within}
 use Rattle.replay_reading.proofs.run_all.Statement.{statement}
 use Rattle.replay_reading.proofs.run_all.Tie as tie
 
 abbrev Inv-loop : tie.InvT-loop
-Inv-loop buf₀ msg₀ scores₀ input₀ check₀ turns₀ buf msg scores input check turns = Within (input .window) (length buf) × (check .len ≤ length msg) × (length buf ≡ length buf₀) × (length msg ≡ length msg₀)
+Inv-loop buf₀ msg₀ scores₀ input₀ check₀ turns₀ buf msg scores input check turns =
+    Within (input .window) (length buf) × (check .len ≤ length msg) × (length buf ≡ length buf₀) × (length msg ≡ length msg₀)
 
 abbrev μ-loop : tie.MeasureT-loop
 μ-loop buf₀ msg₀ scores₀ input₀ check₀ turns₀ buf msg scores input check turns = turns
@@ -25,12 +26,7 @@ run-all-spec =
     (λ c. search needs)  -- sub-turns
     (λ c. search needs)  -- loop-less
     (λ c. search needs)  -- loop-again
-    (λ c κs. search needs)  -- is-whole-requires
-    (λ c κs. search needs)  -- print-scores-requires
+    (λ c κs. search needs)  -- print-all-requires
     (λ c. search needs)  -- same-length
     (λ c. search needs)  -- same-length-2
-    (λ c. search needs)  -- returns
-    (λ c κs. search needs)  -- print-bad-requires
-    (λ c. search needs)  -- same-length-3
-    (λ c. search needs)  -- same-length-4
-    (λ c. search needs))  -- returns-2
+    (λ c. search needs))  -- returns

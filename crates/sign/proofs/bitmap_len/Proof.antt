@@ -9,6 +9,6 @@ bitmap-len-spec =
     tie.close (tie.spec
     (λ c κs. search needs)  -- index-requires
     (λ c κs. search needs)  -- index-requires-2
-    (λ c. omega (arith, small (c .before .index .result) (c .index2 .result) (omega arith) (omega arith)))  -- mul-result
-    (λ c. omega (arith, small (c .before .index .result) (c .index2 .result) (omega arith) (omega arith)))  -- add-result
+    (λ c. let t : tie.After-index = search in omega (arith, small (t .index .result) (c .index2 .result) (omega arith) (omega arith)))  -- mul-result
+    (λ c. let t : tie.After-index = search in omega (arith, small (t .index .result) (c .index2 .result) (omega arith) (omega arith)))  -- add-result
     (λ c. search (bitmap-is, bitmap-small, needs) depth 6))  -- returns

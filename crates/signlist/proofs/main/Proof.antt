@@ -17,7 +17,7 @@ main-spec =
     (λ c κs. search needs)  -- print-decimal-requires
     (λ c κs. search needs)  -- end-line-requires
     (λ c. search needs)  -- array-share-prefix-sign
-    (λ c. sym (length-take-le _ _ (c .before .before .before .before .before .before .before .before .before .read-sign .ensures .0)))  -- slice-aggregate-print-all
+    (λ c. let t : tie.After-read-sign = search in sym (length-take-le _ _ (t .read-sign .ensures .0)))  -- slice-aggregate-print-all
     (λ c. search needs)  -- array-share-prefix-message
     (λ c. search needs)  -- slice-aggregate-print-all-2
     (λ c. search needs)  -- slice-aggregate-print-all-3

@@ -12,8 +12,8 @@ parse-flash-time-spec =
     (λ c κs. search needs)  -- letter-at-requires
     (λ c κs. search needs)  -- tail-requires
     (λ c κs. search needs)  -- parse-flash-on-requires
-    (λ c. unfold flashTime in rw (← c .before .tail .ensures) (search (apart, picks, answers) depth 14))  -- returns-2
+    (λ c. let t : tie.After-tail = search in unfold flashTime in rw (← t .tail .ensures) (search (apart, picks, answers) depth 14))  -- returns-2
     (λ c κs. search needs)  -- tail-requires-2
     (λ c κs. search needs)  -- parse-flash-off-requires
-    (λ c. unfold flashTime in rw (← c .before .tail2 .ensures) (search (apart, picks, answers) depth 14))  -- returns-3
+    (λ c. let t : tie.After-tail2 = search in unfold flashTime in rw (← t .tail2 .ensures) (search (apart, picks, answers) depth 14))  -- returns-3
     (λ c. unfold flashTime in search (apart, picks, answers) depth 14))  -- returns-4

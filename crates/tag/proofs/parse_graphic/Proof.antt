@@ -17,6 +17,6 @@ parse-graphic-spec =
     (λ c. search (fits, needs))  -- cast-parse-point
     (λ c κs. search needs)  -- rest-part-requires
     (λ c κs. search needs)  -- parse-point-requires
-    (λ c. unfold graphic in rw (← c .before .rest-part .ensures) (search (apart, picks, answers) depth 14))  -- returns-3
+    (λ c. let t : tie.After-rest-part = search in unfold graphic in rw (← t .rest-part .ensures) (search (apart, picks, answers) depth 14))  -- returns-3
     (λ c. search (fits, needs))  -- cast-t8
     (λ c. unfold graphic in search (apart, picks, answers) depth 14))  -- returns-4

@@ -16,7 +16,11 @@ slice-end-spec =
     (λ c. search (slice-ways, needs) depth 8)  -- returns-2
     (λ c κs. search needs)  -- bracket-from-requires
     (λ c κs. search needs)  -- byte-at-requires-2
-    (λ c. omega (arith, inside (c .before .before .before .before .before .before .before .before .before .args .msg .now) (c .before .before .bracket-from .result) (c .before .byte-at2 .result) (c .before .byte-at2 .ensures) (omega arith)))  -- add-result-2
+    (λ c.
+    let t : tie.Start = search in
+    let u : tie.After-bracket-from = search in
+    let v : tie.After-byte-at2 = search in
+    omega (arith, inside (t .args .msg .now) (u .bracket-from .result) (v .byte-at2 .result) (v .byte-at2 .ensures) (omega arith)))  -- add-result-2
     (λ c. search (slice-ways, needs) depth 8)  -- returns-3
     (λ c. search (slice-ways, needs) depth 8)  -- returns-4
     (λ c. search needs)  -- add-result-3

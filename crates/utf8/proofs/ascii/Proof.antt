@@ -22,7 +22,7 @@ ascii-spec =
     tie.close (tie.spec
     Inv-loop
     μ-loop
-    (λ c. ascii-start (c .before .args .s .now) (c .before .args .from) (omega (arith, c .before .fits .from)))  -- loop-holds
+    (λ c. let t : tie.Start Inv-loop μ-loop = search in ascii-start (t .args .s .now) (t .args .from) (omega (arith, t .fits .from)))  -- loop-holds
     (λ c. search needs)  -- shared-slice-read-smaller
     (λ c κs. search needs)  -- smaller-requires
     (λ c. search needs)  -- shared-slice-read-larger

@@ -23,7 +23,7 @@ walk-latin1-spec =
     (λ c κs. search (latin1-ways, needs) depth 6)  -- code-at-requires
     (λ c. search (latin1-ways, needs) depth 6)  -- returns
     (λ c. search (latin1-ways, needs) depth 6)  -- returns-2
-    (λ c. omega (arith, code-len _ _ _ (c .before .before .before .before .before .code-at .ensures)))  -- add-at
+    (λ c. let t : tie.After-code-at Inv-loop μ-loop = search in omega (arith, code-len _ _ _ (t .code-at .ensures)))  -- add-at
     (λ c. search (latin1-ways, needs) depth 6)  -- loop-less
     (λ c. search (latin1-ways, needs) depth 6)  -- loop-again
     (λ c. search (latin1-ways, needs) depth 6))  -- returns-3

@@ -8,7 +8,7 @@ has-tag-spec =
     tie.close (tie.spec
     (λ c. search needs)  -- enum-known-tag
     (λ c. search needs)  -- shr-result
-    (λ c. rw (c .before .before .tag .given .1) (bit-in _ _ (c .if1 .taken)))  -- returns
+    (λ c. let t : tie.After-tag = search in rw (t .tag .given .1) (bit-in _ _ (c .if1 .taken)))  -- returns
     (λ c. search needs)  -- enum-told
-    (λ c. rw (c .before .before .tag .given .1) (bit-out _ _ (c .if1 .left)))  -- returns-2
+    (λ c. let t : tie.After-tag = search in rw (t .tag .given .1) (bit-out _ _ (c .if1 .left)))  -- returns-2
     (λ c. search needs))  -- returns-3

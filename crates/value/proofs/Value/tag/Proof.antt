@@ -31,7 +31,7 @@ tag-spec =
     (λ c. rw (c .enum-told .given .1))  -- returns
     (λ c. rw (c .enum-told2 .given .1))  -- returns-2
     (λ c. rw (c .enum-told3 .given .1))  -- returns-3
-    (λ c. rw (c .before .before .self .given .1) (c .field-tag .ensures))  -- returns-4
+    (λ c. let t : tie.After-self = search in rw (t .self .given .1) (c .field-tag .ensures))  -- returns-4
     (λ c. rw (c .enum-told4 .given .1))  -- returns-5
     (λ c. rw (c .enum-told5 .given .1))  -- returns-6
     (λ c. rw (c .enum-told6 .given .1))  -- returns-7
