@@ -14,7 +14,7 @@ use Rattle.records.specs.declared.Config.{Config}
 use Rattle.sign.specs.declared.SignFile.{SignFile}
 use Rattle.layout.specs.declared.RenderState.{RenderState}
 use Rattle.layout.specs.Types.{Item, items, Board}
-use Rattle.layout.specs.Read.{Scan, scan, stopIf, read, opening, events}
+use Rattle.layout.specs.Read.{Scan, scan, stopIf, start, read, opening, events}
 use Rattle.layout.specs.Listing.{Page, on, off, refused as refusedPage, offs, walk, pages}
 use Rattle.page.specs.declared.OptRefusal.{OptRefusal}
 use Rattle.page.specs.declared.OptRefusal.the-variants.{Some, None}
@@ -168,6 +168,9 @@ module _ {file : List ℕ} {table : SignFile} {msg : List ℕ} {p : Pages} {rows
   next-done q = subst (λ (x : PageState). Tells x NextNone) (sym q) (record { ends = refl; next = tt; rowed = refl; room = refl })
 
 -- ---- before the first answer
+
+pub first-is : (c : Config) {st : RenderState} {a b : ℕ} → st ≡ start c → a ≡ c .«on_time» → b ≡ c .«off_time» → pagesAt 0 st a b (OnState true) ≡ firstOf c
+first-is c p q r = rw (p, q, r)
 
 pub pages-todo : (s : Board) (msg : List ℕ) → pages s (items msg) ≡ todo s msg (firstOf (s .config))
 unfolding pages events opening turned items itemsFrom slices

@@ -1,3 +1,4 @@
+use Rattle.pages.proofs.Answers.{first-is}
 use borrow.Author.Needs.{needs}
 use Rattle.pages.proofs.first.Statement.{statement}
 use Rattle.pages.proofs.first.Tie as tie
@@ -8,4 +9,4 @@ first-spec =
     (λ c κs. search needs)  -- start-requires
     (λ c κs. search needs)  -- wide16-requires
     (λ c κs. search needs)  -- wide16-requires-2
-    (λ c. cc))  -- returns
+    (λ c. search first-is))  -- returns
