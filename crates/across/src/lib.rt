@@ -32,12 +32,6 @@ fn matches_span(r: Row, e: Row) -> bool
     r.just_line == e.just_line
 }
 
-fn wide(x: u32) -> u64
-    ensures { λ r. ⌜ (r ≡ x) × (r < 4294967296) ⌝ }
-{
-    x as u64
-}
-
 // Half of two spacings, rounded up.
 fn half_up(a: u16, b: u16) -> u64
     ensures { λ r. ⌜ (r ≡ (a + b + 1) / 2) × (r < 65536) ⌝ }
@@ -99,7 +93,7 @@ fn join(n: u16, o: Sums, e: Row) -> Sums
     ensures { λ q. ⌜ (q ≡ joined n o e) × (q .before + q .after ≤ o .before + o .after + 8589934592) ⌝ }
 {
     let g = gap(o, e);
-    let w = wide(e.width);
+    let w = base::long64(e.width);
     let upto = e.span <= n;
     let less = e.span < n;
     Sums {

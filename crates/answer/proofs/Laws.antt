@@ -12,7 +12,7 @@ use mir.Syntax.{w8, w16}
 use borrow.Author.Tests.{lt-ltb, le-ltb}
 use Rattle.base.specs.Pick.{pick}
 use Rattle.utf8.specs.Utf8.{wellFormed}
-use Rattle.reading.specs.declared.Refusal.{Refusal}
+use Rattle.refusal.specs.declared.Refusal.{Refusal}
 use Rattle.records.specs.declared.Config.{Config}
 use Rattle.sign.specs.Sign.{Font, Sign, Accepted, signFile}
 use Rattle.sign.specs.Given.{given as tableOf}
@@ -22,7 +22,8 @@ use Rattle.sign.proofs.Answer.{Accepts, accepts, refuses}
 use Rattle.layout.specs.declared.Span.{Span}
 use Rattle.layout.specs.declared.Answer.{Answer}
 use Rattle.layout.specs.declared.Answer.the-variants.{On, Off, End, Refused}
-use Rattle.layout.specs.Types.{items, Board, refusal}
+use Rattle.layout.specs.Types.{items, Board}
+use Rattle.refusal.specs.Refusals.{refusal}
 use Rattle.layout.specs.Fonts.{meterOf, boardOf}
 use Rattle.layout.specs.Listing.{Page, on, off, refused as refusedPage, pages, answerOf, recordsOf, Result, said, past, numbered, checked, resultOn, result}
 use Rattle.layout.proofs.Room.{result-room}

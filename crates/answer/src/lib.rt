@@ -2,14 +2,14 @@
 ghost use mathlib.Core.Path.{_≡_};
 ghost use Prim.Native.Nat.{_*_, _≤_};
 ghost use lib.ListN.{length};
-ghost use Rattle.layout.specs.Types.{refusal as refusalOf};
+ghost use Rattle.refusal.specs.Refusals.{refusal as refusalOf};
 ghost use Rattle.layout.specs.Listing.{result};
 ghost use Rattle.pages.specs.Pages.{Ready};
 ghost use Rattle.answer.specs.Answer.{answerBy, Answerable, countOf, RecordRoom, Numbered, Listable, CheckAsked, Checked, Computed};
 ghost use Rattle.rows.specs.Rows.{spansOf};
 use layout::Answer;
 use pages::NextPage;
-use reading::Refusal;
+use refusal::Refusal;
 use sign::Outcome;
 use sign::SignFile;
 

@@ -115,7 +115,7 @@ fn note(table: &mut [u16], number: u16, width: u8)
     if table[k] != 0 {
         return;
     }
-    table[k] = records::wide16(width) + 1;
+    table[k] = base::wide16(width) + 1;
 }
 
 // Fills a table of zeros with the widths of a font: at each code the width and 1, or 0 for a code that is missing.

@@ -11,7 +11,8 @@ use Rattle.sign.specs.Sign.{Font, Sign, Accepted, RefusedAt, signFile}
 use Rattle.layout.specs.declared.Span.{Span}
 use Rattle.layout.specs.declared.Answer.{Answer}
 use Rattle.layout.specs.declared.Answer.the-variants.{On, Off, End, Refused}
-use Rattle.layout.specs.Types.{items, refusal}
+use Rattle.layout.specs.Types.{items}
+use Rattle.refusal.specs.Refusals.{refusal}
 use Rattle.layout.specs.Fonts.{boardOf}
 use Rattle.layout.specs.Listing.{Page, on, off, refused, pages, answerOf, recordsOf, Result, past, numbered, resultOn, result, listing, after}
 use Rattle.layout.specs.Demand.{Shows, Whole, counted, listed, Demand3}

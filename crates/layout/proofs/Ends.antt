@@ -10,7 +10,7 @@ use lib.Dec.{ltb}
 use borrow.Author.Tests.{ltb-true, ltb-false, le-ltb}
 use lib.ListN.{length}
 use Rattle.sign.specs.Sign.{Sign, Accepted, RefusedAt, signFile}
-use Rattle.reading.specs.declared.Refusal.{Refusal}
+use Rattle.refusal.specs.declared.Refusal.{Refusal}
 use Rattle.layout.specs.declared.Span.{Span}
 use Rattle.layout.specs.declared.Answer.{Answer}
 use Rattle.layout.specs.declared.Answer.the-variants.{On, Off, End, Refused}

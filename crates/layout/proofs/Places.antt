@@ -19,7 +19,7 @@ use Rattle.reading.specs.declared.Item.{Item as Said}
 use Rattle.reading.specs.declared.Item.the-variants.{Is, Fails}
 use Rattle.records.specs.declared.Config.{Config}
 use Rattle.sign.specs.Sign.{Font, Sign, Accepted, RefusedAt, signFile}
-use Rattle.reading.specs.declared.Refusal.{Refusal}
+use Rattle.refusal.specs.declared.Refusal.{Refusal}
 use Rattle.layout.specs.declared.Span.{Span}
 use Rattle.layout.specs.declared.Answer.{Answer}
 use Rattle.layout.specs.declared.Answer.the-variants.{On, Off, End, Refused}
@@ -28,7 +28,8 @@ use Rattle.layout.specs.declared.RenderState.{RenderState}
 use Rattle.layout.specs.declared.Entry.{Entry}
 use Rattle.layout.specs.declared.Mark.{Mark}
 use Rattle.layout.specs.declared.Mark.the-variants.{Plain, Ends, Timed, Wrong}
-use Rattle.layout.specs.Types.{Item, items, refusal, Board}
+use Rattle.layout.specs.Types.{Item, items, Board}
+use Rattle.refusal.specs.Refusals.{refusal}
 use Rattle.font.specs.Table.{fontNumbered}
 use Rattle.measure.specs.declared.Measure.{Measure}
 use Rattle.measure.specs.declared.Measure.the-variants.{Width, Missing}

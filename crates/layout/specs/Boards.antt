@@ -18,7 +18,8 @@ use Rattle.records.specs.Config.{configOf, sizeOk, justOk, notZero, bitsOk, tag
 use Rattle.sign.specs.Sign.{charactersOf, fontsOf, configIn, member, isFont, bitmapLen, isCharacter, faultFrom, firstFault as firstBad, fault, signFile}
 use Rattle.layout.specs.declared.Span.{Span}
 use Rattle.layout.specs.declared.Answer.the-variants.{On, Off, End, Refused}
-use Rattle.layout.specs.Types.{items, refusal}
+use Rattle.layout.specs.Types.{items}
+use Rattle.refusal.specs.Refusals.{refusal}
 use Rattle.font.specs.Character.{lookup, characterIn}
 use Rattle.measure.specs.Measure.{widened, widthAfter, textWidth}
 use Rattle.layout.specs.Fonts.{measureIn, meterOf, boardOf}

@@ -5,7 +5,7 @@ use mathlib.Core.List.{List, [], _∷_, map}
 use lib.Dec.{eqb}
 use lib.ListN.{length}
 use Rattle.base.specs.Pick.{pick}
-use Rattle.reading.specs.declared.Refusal.{Refusal}
+use Rattle.refusal.specs.declared.Refusal.{Refusal}
 use Rattle.records.specs.Record.{Piece, Record, CutShort, pieces}
 use Rattle.sign.specs.Sign.{RefusedAt, signFile}
 use Rattle.layout.specs.declared.Span.{Span}

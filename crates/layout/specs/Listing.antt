@@ -6,14 +6,15 @@ use lib.Dec.{ltb}
 use lib.ListN.{length, drop}
 use Rattle.base.specs.Pick.{pick}
 use Rattle.utf8.specs.Utf8.{wellFormed}
-use Rattle.reading.specs.declared.Refusal.{Refusal}
+use Rattle.refusal.specs.declared.Refusal.{Refusal}
 use Rattle.sign.specs.Sign.{Sign, Accepted, RefusedAt, signFile}
 use Rattle.layout.specs.declared.Span.{Span}
 use Rattle.layout.specs.declared.Answer.{Answer}
 use Rattle.layout.specs.declared.Answer.the-variants.{On, Off, End, Refused}
 use Rattle.layout.specs.declared.Rect.{Rect}
 use Rattle.layout.specs.declared.Entry.{Entry}
-use Rattle.layout.specs.Types.{Item, items, refusal, Board}
+use Rattle.layout.specs.Types.{Item, items, Board}
+use Rattle.refusal.specs.Refusals.{refusal}
 use Rattle.layout.specs.Fonts.{boardOf}
 use Rattle.layout.specs.Place.{orElse, unless, passFault, passRecords}
 use Rattle.layout.specs.Read.{Event, pass, close, stop, opening, events}

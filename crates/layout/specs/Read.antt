@@ -13,7 +13,7 @@ use Rattle.value.specs.declared.Value.the-variants.{ColorBackground, ColorForeg
 use Rattle.value.specs.Tag.{tagOf, hasTag}
 use Rattle.reading.specs.declared.Item.{Item as Said}
 use Rattle.reading.specs.declared.Item.the-variants.{Is, Fails}
-use Rattle.reading.specs.declared.Refusal.{Refusal}
+use Rattle.refusal.specs.declared.Refusal.{Refusal}
 use Rattle.value.specs.declared.OptNum.{OptNum}
 use Rattle.value.specs.declared.OptNum.the-variants.{Some, None}
 use Rattle.records.specs.declared.Config.{Config}
@@ -24,7 +24,8 @@ use Rattle.layout.specs.declared.Mark.{Mark}
 use Rattle.layout.specs.declared.Mark.the-variants.{Plain, Ends, Timed, Wrong}
 use Rattle.layout.specs.declared.Step.{Step}
 use Rattle.layout.specs.declared.Step.the-variants.{Refuse, Go, Emit, Cut, Turn}
-use Rattle.layout.specs.Types.{Item, refusal, given}
+use Rattle.layout.specs.Types.{Item, given}
+use Rattle.refusal.specs.Refusals.{refusal}
 
 -- ---- a page's scan
 

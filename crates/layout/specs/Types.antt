@@ -9,7 +9,6 @@ use Rattle.value.specs.declared.OptNum.{OptNum}
 use Rattle.value.specs.declared.OptNum.the-variants.{Some, None}
 use Rattle.records.specs.declared.Config.{Config}
 use Rattle.reading.specs.declared.Item.{Item as Said}
-use Rattle.reading.specs.declared.Refusal.{Refusal}
 use Rattle.reading.specs.Reading.{itemOf}
 use Rattle.layout.specs.declared.Entry.{Entry}
 
@@ -25,10 +24,6 @@ itemAt s = record { start = s .start; len = length (s .bytes); says = itemOf (s 
 -- the items of a message: its slices, read
 unfoldable pub items : List ℕ → List Item
 items msg = map itemAt (slices msg)
-
--- "A refusal holds number, start, length and detail"
-abbrev pub refusal : ℕ → ℕ → ℕ → ℕ → Refusal
-refusal n start len detail = record { number = n; start = start; length = len; detail = detail }
 
 -- the number of an option, or d where there is none
 abbrev pub given : OptNum → ℕ → ℕ

@@ -2,9 +2,9 @@
 ghost use mathlib.Core.Path.{_≡_};
 ghost use Prim.Native.Nat.{_<_};
 ghost use Rattle.layout.specs.Types.{given as givenOf};
-ghost use Rattle.layout.specs.Read.{withSpan, withJustLine, withJustPage, withLine, withCharSpacing, withFont, withRect, whole as wholeOf, newPage, start as startOf};
-use reading::Refusal;
+ghost use Rattle.layout.specs.Read.{withSpan, withJustLine, withJustPage, withLine, withCharSpacing, withFont, withRect, unit as unitOf, whole as wholeOf, newPage, start as startOf};
 use records::Config;
+use refusal::Refusal;
 use value::OptNum;
 
 // A text rectangle; left and top from 0: [tr]'s x - 1 and y - 1.
@@ -92,6 +92,16 @@ pub fn given(o: OptNum, d: u16) -> u16
         OptNum::Some(n) => n,
         OptNum::None => d,
     }
+}
+
+// A size of 0 stands for 1.
+pub fn unit(n: u8) -> u16
+    ensures { λ r. ⌜ (r ≡ unitOf n) × (0 < r) ⌝ }
+{
+    if n == 0 {
+        return 1;
+    }
+    base::wide16(n)
 }
 
 // The whole sign.

@@ -134,12 +134,6 @@ pub fn line_list(rows: &[u16], n: usize, just: u16) -> LineList
     l
 }
 
-fn wide(x: u16) -> u64
-    ensures { λ r. ⌜ (r ≡ x) × (r ≤ 65535) ⌝ }
-{
-    x as u64
-}
-
 // The spacing above line i: the line before has font spacing p, its own is s.
 fn gap(char_height: u8, i: usize, p: u16, s: u16, led: u16, lead: u16) -> u64
     ensures { λ r. ⌜ (r ≡ gapOf «char_height» i p s led lead) × (r ≤ 65535) ⌝ }
@@ -151,10 +145,10 @@ fn gap(char_height: u8, i: usize, p: u16, s: u16, led: u16, lead: u16) -> u64
         return 0;
     }
     if led == 1 {
-        return wide(lead);
+        return base::word64(lead);
     }
-    let a = wide(p);
-    let b = wide(s);
+    let a = base::word64(p);
+    let b = base::word64(s);
     (a + b + 1) / 2
 }
 
@@ -170,7 +164,7 @@ fn added(b: bool, sum: u64, g: u64, h: u16) -> u64
     ensures { λ r. ⌜ (r ≡ sum + pick b (g + h) 0) × (r ≤ sum + 131072) ⌝ }
 {
     if b {
-        return sum + (g + wide(h));
+        return sum + (g + base::word64(h));
     }
     sum
 }

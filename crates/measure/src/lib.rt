@@ -27,19 +27,13 @@ fn character(file: &[u8], entry: FontEntry, code: u32) -> Found
     font::character(file, entry, code as u16)
 }
 
-fn wide16(x: u16) -> u32
-    ensures { λ r. ⌜ r ≡ x ⌝ }
-{
-    x as u32
-}
-
 // A width with one character more.
 fn wider(width: u32, spacing: u16, more: u16) -> u32
     requires { ⌜ width ≤ 65790 * 65000 ⌝ }
     ensures { λ r. ⌜ r ≡ widened width spacing more ⌝ }
 {
-    let s = wide16(spacing);
-    let m = wide16(more);
+    let s = base::word32(spacing);
+    let m = base::word32(more);
     if 0 < width {
         return width + (s + m);
     }
@@ -58,7 +52,7 @@ fn width_in(file: &[u8], entry: FontEntry, table: &[u16], code: u32) -> u16
     let Found::Is(width, _) = character(file, entry, code) else {
         return 0;
     };
-    records::wide16(width) + 1
+    base::wide16(width) + 1
 }
 
 // A width with one character more, or that character's code if the font does not define it.

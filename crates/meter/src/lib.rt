@@ -138,13 +138,13 @@ fn gauge_in(file: &[u8], f: FontEntry, widths: &[u16], msg: &[u8], e: Entry) -> 
     let st = e.state;
     let char_spacing = st.char_spacing;
     let version = st.version;
-    let spacing = layout::given(char_spacing, records::wide16(f.char_spacing));
+    let spacing = layout::given(char_spacing, base::wide16(f.char_spacing));
     let m = span_width(file, f, widths, msg, e, spacing);
     let fault = fault_by(version_number(version, f.version_id), m);
     Gauge {
         spacing,
-        height: records::wide16(f.height),
-        font_spacing: records::wide16(f.line_spacing),
+        height: base::wide16(f.height),
+        font_spacing: base::wide16(f.line_spacing),
         width: width_of(m),
         fault: fault.number,
         detail: fault.detail,
@@ -163,7 +163,7 @@ fn no_font(e: Entry) -> Gauge
         font_spacing: 0,
         width: 0,
         fault: 10,
-        detail: records::wide16(st.font),
+        detail: base::wide16(st.font),
     }
 }
 
@@ -204,11 +204,11 @@ fn row_by(e: Entry, g: Gauge) -> Row
         start: e.start,
         len: e.len,
         code: e.code,
-        just_page: records::wide16(st.just_page),
-        just_line: records::wide16(st.just_line),
-        font: records::wide16(st.font),
-        line: records::wide16(st.line),
-        span: records::wide16(st.span),
+        just_page: base::wide16(st.just_page),
+        just_line: base::wide16(st.just_line),
+        font: base::wide16(st.font),
+        line: base::wide16(st.line),
+        span: base::wide16(st.span),
         fixed: flag(char_spacing),
         spacing: g.spacing,
         led: flag(line_spacing),

@@ -3,7 +3,7 @@
 use libc::STDIN_FILENO;
 use libc::STDOUT_FILENO;
 use reading::Reading;
-use reading::Refusal;
+use refusal::Refusal;
 use value::Place;
 use value::Value;
 

@@ -21,9 +21,10 @@ use Rattle.reading.specs.Reading.{place, itemOf}
 use Rattle.records.specs.declared.Config.{Config}
 use Rattle.layout.specs.declared.Mark.{Mark}
 use Rattle.layout.specs.declared.Mark.the-variants.{Plain, Ends, Timed, Wrong}
-use Rattle.layout.specs.Types.{Item, itemAt, refusal, given}
+use Rattle.layout.specs.Types.{Item, itemAt, given}
+use Rattle.refusal.specs.Refusals.{refusal}
 use Rattle.layout.specs.Read.{Scan, tagged, markOf, markItem, scanBy, scan}
-use Rattle.page.specs.declared.OptRefusal.the-variants.{Some, None}
+use Rattle.refusal.specs.declared.OptRefusal.the-variants.{Some, None}
 use Rattle.page.specs.declared.PageScan.{PageScan}
 use Rattle.page.specs.declared.Turn.{Turn}
 use Rattle.page.specs.declared.Turn.the-variants.{On, Stop}

@@ -7,15 +7,11 @@ ghost use Rattle.page.specs.State.{newPage, doneAfter, nextState};
 ghost use Rattle.page.specs.Scan.{told, turnBy, turnAt, itemsFrom};
 use layout::Mark;
 use reading::Item;
-use reading::Refusal;
 use records::Config;
+use refusal::OptRefusal;
+use refusal::Refusal;
 use value::Place;
 use value::Value;
-
-pub enum OptRefusal {
-    Some(Refusal),
-    None,
-}
 
 // A page's times, and its first failing slice.
 pub struct PageScan {

@@ -9,15 +9,15 @@ use lib.Dec.{ltb}
 use lib.ListN.{length}
 use Rattle.token.specs.Token.{slices}
 use Rattle.base.specs.Pick.{pick}
-use Rattle.reading.specs.declared.Refusal.{Refusal}
+use Rattle.refusal.specs.declared.Refusal.{Refusal}
 use Rattle.records.specs.declared.Config.{Config}
 use Rattle.sign.specs.declared.SignFile.{SignFile}
 use Rattle.layout.specs.declared.RenderState.{RenderState}
 use Rattle.layout.specs.Types.{Item, items, Board}
 use Rattle.layout.specs.Read.{Scan, scan, stopIf, start, read, opening, events}
 use Rattle.layout.specs.Listing.{Page, on, off, refused as refusedPage, offs, walk, pages}
-use Rattle.page.specs.declared.OptRefusal.{OptRefusal}
-use Rattle.page.specs.declared.OptRefusal.the-variants.{Some, None}
+use Rattle.refusal.specs.declared.OptRefusal.{OptRefusal}
+use Rattle.refusal.specs.declared.OptRefusal.the-variants.{Some, None}
 use Rattle.page.specs.declared.PageScan.{PageScan}
 use Rattle.page.specs.declared.PageState.{PageState}
 use Rattle.page.specs.declared.PageState.the-variants.{On as OnState, Off as OffState, Done}

@@ -10,13 +10,14 @@ use lib.Dec.{ltb}
 use lib.ListN.{length}
 use borrow.Author.Tests.{lt-ltb, le-ltb}
 use Rattle.base.specs.Pick.{pick}
-use Rattle.reading.specs.declared.Refusal.{Refusal}
+use Rattle.refusal.specs.declared.Refusal.{Refusal}
 use Rattle.records.specs.declared.Config.{Config}
 use Rattle.sign.specs.declared.SignFile.{SignFile}
 use Rattle.layout.specs.declared.RenderState.{RenderState}
 use Rattle.layout.specs.declared.Entry.{Entry}
 use Rattle.layout.specs.declared.Span.{Span}
-use Rattle.layout.specs.Types.{Item, Board, refusal}
+use Rattle.layout.specs.Types.{Item, Board}
+use Rattle.refusal.specs.Refusals.{refusal}
 use Rattle.layout.specs.Read.{Event, newPage, whole}
 use Rattle.layout.specs.Place.{orElse, unless, passFault, passRecords}
 use Rattle.layout.specs.Listing.{Page, on, refused as refusedPage, offs, stopAt, walk}

@@ -8,7 +8,7 @@ use native.Mathlib.Omega.{arith}
 use lib.ListN.{getD}
 use mir.Val as Val
 use mir.Syntax.{w8, w64}
-use Rattle.reading.specs.declared.Refusal.{Refusal}
+use Rattle.refusal.specs.declared.Refusal.{Refusal}
 use Rattle.records.specs.declared.Config.{Config}
 use Rattle.sign.specs.declared.SignFile.{SignFile}
 use Rattle.sign.proofs.Answer.{Accepts, accepts}
@@ -17,8 +17,8 @@ use Rattle.layout.specs.declared.Entry.{Entry}
 use Rattle.layout.specs.declared.Span.{Span}
 use Rattle.layout.specs.Types.{Board}
 use Rattle.layout.specs.Place.{passFault, passRecords}
-use Rattle.page.specs.declared.OptRefusal.{OptRefusal}
-use Rattle.page.specs.declared.OptRefusal.the-variants.{Some, None}
+use Rattle.refusal.specs.declared.OptRefusal.{OptRefusal}
+use Rattle.refusal.specs.declared.OptRefusal.the-variants.{Some, None}
 use Rattle.page.specs.Scan.{faultIs, itemsFrom}
 use Rattle.rows.specs.Rows.{rowsOf, spansOf}
 use Rattle.place.specs.Placed.{rowsFault, rowsRecords, Placeable, PassPlaced}

@@ -8,13 +8,14 @@ use mathlib.Core.List.{List, [], _∷_, _++_}
 use lib.Dec.{ltb}
 use lib.ListN.{length}
 use Rattle.base.specs.Pick.{pick}
-use Rattle.reading.specs.declared.Refusal.{Refusal}
+use Rattle.refusal.specs.declared.Refusal.{Refusal}
 use Rattle.records.specs.declared.Config.{Config}
 use Rattle.sign.specs.declared.SignFile.{SignFile}
 use Rattle.layout.specs.declared.RenderState.{RenderState}
 use Rattle.layout.specs.declared.Entry.{Entry}
 use Rattle.layout.specs.declared.Span.{Span}
-use Rattle.layout.specs.Types.{Item, Board, refusal}
+use Rattle.layout.specs.Types.{Item, Board}
+use Rattle.refusal.specs.Refusals.{refusal}
 use Rattle.layout.specs.Read.{Scan, scan, stopIf, start, newPage, read}
 use Rattle.layout.specs.Place.{passFault, passRecords}
 use Rattle.layout.specs.Listing.{Page, on, off, refused as refusedPage, offs, walk}

@@ -3,13 +3,13 @@ ghost use mathlib.Core.Path.{_≡_};
 ghost use mathlib.Core.Bool.{true};
 ghost use Rattle.pages.specs.Pages.{RenderAsked, PassRendered, tooMany, lastOf, pageDone, PageRendered, stateAfter, shownBy, offBy, firstOf, NextAsked, NextRead};
 use layout::RenderState;
-use page::OptRefusal;
 use page::PageState;
 use pass::How;
 use pass::PassDone;
 use pass::PassEnd;
-use reading::Refusal;
 use records::Config;
+use refusal::OptRefusal;
+use refusal::Refusal;
 use sign::SignFile;
 
 // A page that is done: whether [np] ended it, the place past that, the count of its records, and the state of a page after it.
@@ -271,8 +271,8 @@ pub fn first(c: Config) -> Pages
     Pages {
         at: 0,
         render_state,
-        on: records::wide16(c.on_time),
-        off: records::wide16(c.off_time),
+        on: base::wide16(c.on_time),
+        off: base::wide16(c.off_time),
         page_state: PageState::On(true),
     }
 }

@@ -15,7 +15,7 @@ use Rattle.token.proofs.Laws.{cuts-next, cuts-end, next-le, next-from, next-mor
 use Rattle.utf8.specs.Utf8.{codes}
 use Rattle.value.specs.declared.Place.{Place}
 use Rattle.value.specs.declared.Value.{Value}
-use Rattle.reading.specs.declared.Refusal.{Refusal}
+use Rattle.refusal.specs.declared.Refusal.{Refusal}
 use Rattle.reading.specs.declared.Item.{Item as Said}
 use Rattle.reading.specs.declared.Item.the-variants.{Is, Fails}
 use Rattle.reading.specs.Reading.{place, itemOf}

@@ -5,7 +5,7 @@ use mathlib.Core.Bool.{Bool, true}
 use mathlib.Core.List.{List, [], _∷_, map}
 use lib.ListN.{length, take, drop}
 use Rattle.token.specs.Token.{sliceLen}
-use Rattle.reading.specs.declared.Refusal.{Refusal}
+use Rattle.refusal.specs.declared.Refusal.{Refusal}
 use Rattle.records.specs.declared.Config.{Config}
 use Rattle.sign.specs.declared.SignFile.{SignFile}
 use Rattle.layout.specs.declared.Rect.{Rect}

@@ -10,8 +10,8 @@ use layout::Rect;
 use layout::RenderState;
 use layout::Step;
 use reading::Item;
-use reading::Refusal;
 use records::Config;
+use refusal::Refusal;
 use sign::SignFile;
 use value::Place;
 
@@ -72,7 +72,7 @@ fn keep(file: &[u8], table: SignFile, font: u8, held: u16, widths: &mut [u16; 25
     requires { ⌜ (held < 256 → Held (now file) table held (now widths)) ⌝ }
     ensures { λ r. ⌜ (r ≡ font) × Held (now (file .entry)) table font (now (widths .exit)) ⌝ }
 {
-    let wanted = records::wide16(font);
+    let wanted = base::wide16(font);
     if held == wanted {
         return wanted;
     }

@@ -7,12 +7,13 @@ use mathlib.Core.List.{List, [], _∷_, map}
 use native.Mathlib.Omega.{arith}
 use lib.Dec.{eqb}
 use borrow.Author.Tests.{le-ltb}
-use Rattle.reading.specs.declared.Refusal.{Refusal}
+use Rattle.refusal.specs.declared.Refusal.{Refusal}
 use Rattle.records.specs.declared.Config.{Config}
 use Rattle.layout.specs.declared.Rect.{Rect}
 use Rattle.layout.specs.declared.Span.{Span}
 use Rattle.layout.specs.declared.Entry.{Entry}
-use Rattle.layout.specs.Types.{refusal, Meter, Board}
+use Rattle.layout.specs.Types.{Meter, Board}
+use Rattle.refusal.specs.Refusals.{refusal}
 use Rattle.layout.specs.Place as place
 use Rattle.layout.specs.Place.{orElse, unless, firstFault, select, same, samePage, beforeOf, afterOf, linesOf, aboveOf, belowOf, xOf, baseOf, recordOf, spanFault, goesBack, backFault, passFault, passRecords}
 use Rattle.rows.specs.declared.Row.{Row}

@@ -10,15 +10,15 @@ use lib.Dec.{leb, ltb, eqb}
 use lib.ListN.{length}
 use borrow.Author.Tests.{lt-ltb, le-ltb, le-leb, lt-leb, eq-eqb, ne-eqb, eqb-true}
 use Rattle.base.specs.Pick.{pick}
-use Rattle.reading.specs.declared.Refusal.{Refusal}
+use Rattle.refusal.specs.declared.Refusal.{Refusal}
 use Rattle.records.specs.declared.Config.{Config}
 use Rattle.layout.specs.declared.Rect.{Rect}
 use Rattle.layout.specs.declared.Span.{Span}
-use Rattle.layout.specs.Types.{refusal}
+use Rattle.refusal.specs.Refusals.{refusal}
 use Rattle.layout.specs.Read.{unit}
 use Rattle.layout.specs.Place.{Line, trunc, orElse, unless, firstFault, placeX, above, below}
-use Rattle.page.specs.declared.OptRefusal.{OptRefusal}
-use Rattle.page.specs.declared.OptRefusal.the-variants.{Some, None}
+use Rattle.refusal.specs.declared.OptRefusal.{OptRefusal}
+use Rattle.refusal.specs.declared.OptRefusal.the-variants.{Some, None}
 use Rattle.page.specs.Scan.{faultIs}
 use Rattle.rows.specs.declared.Row.{Row}
 use Rattle.rows.specs.Rows.{cells, rowAt, rowsOf, spansOf, putSpan}

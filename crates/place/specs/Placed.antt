@@ -7,15 +7,15 @@ use mathlib.Core.List.{List, [], _∷_, _++_, map}
 use lib.Dec.{leb, ltb, eqb}
 use lib.ListN.{length}
 use Rattle.base.specs.Pick.{pick}
-use Rattle.reading.specs.declared.Refusal.{Refusal}
+use Rattle.refusal.specs.declared.Refusal.{Refusal}
 use Rattle.records.specs.declared.Config.{Config}
 use Rattle.layout.specs.declared.Rect.{Rect}
 use Rattle.layout.specs.declared.Span.{Span}
-use Rattle.layout.specs.Types.{refusal}
+use Rattle.refusal.specs.Refusals.{refusal}
 use Rattle.layout.specs.Place.{Line, trunc, orElse, unless, firstFault, placeX, above, below, baseline}
 use Rattle.rows.specs.declared.Row.{Row}
-use Rattle.page.specs.declared.OptRefusal.{OptRefusal}
-use Rattle.page.specs.declared.OptRefusal.the-variants.{None}
+use Rattle.refusal.specs.declared.OptRefusal.{OptRefusal}
+use Rattle.refusal.specs.declared.OptRefusal.the-variants.{None}
 use Rattle.page.specs.Scan.{faultIs}
 use Rattle.rows.specs.Rows.{RowRoom, SpanRoom, rowAt, rowsOf, spansOf}
 use Rattle.rows.specs.Measured.{faultOf}

@@ -4,8 +4,7 @@ ghost use mathlib.Core.List.{[], _++_};
 ghost use Prim.Native.Nat.{_+_, _*_, _≤_, _<_};
 ghost use lib.ListN.{length};
 ghost use Rattle.layout.specs.Place.{trunc as truncOf, firstFault};
-ghost use Rattle.layout.specs.Read.{unit as unitOf};
-ghost use Rattle.page.specs.declared.OptRefusal.the-variants.{None};
+ghost use Rattle.refusal.specs.declared.OptRefusal.the-variants.{None};
 ghost use Rattle.page.specs.Scan.{faultIs};
 ghost use Rattle.rows.specs.Rows.{rowsOf, spansOf};
 ghost use Rattle.rows.specs.Measured.{faultOf};
@@ -16,9 +15,9 @@ use across::Sums;
 use layout::Rect;
 use layout::Span;
 use lines::LineList;
-use page::OptRefusal;
-use reading::Refusal;
 use records::Config;
+use refusal::OptRefusal;
+use refusal::Refusal;
 use rows::Row;
 
 // A placed span, or its refusal.
@@ -70,21 +69,11 @@ fn check_justification(rows: &[u16], n: usize) -> OptRefusal
     OptRefusal::None
 }
 
-// A size of 0 stands for 1.
-fn unit(n: u8) -> u16
-    ensures { λ r. ⌜ (r ≡ unitOf n) × (0 < r) ⌝ }
-{
-    if n == 0 {
-        return 1;
-    }
-    records::wide16(n)
-}
-
 // Truncated to the character grid.
 fn trunc(n: u8, x: u16) -> u16
     ensures { λ r. ⌜ (r ≡ truncOf n x) × (r ≤ x) ⌝ }
 {
-    let k = unit(n);
+    let k = layout::unit(n);
     x / k * k
 }
 

@@ -16,6 +16,7 @@ use Rattle.tag.specs.declared.Parsed.the-variants.{Good, Unsupported, Bad}
 use Rattle.parse.specs.Parse.{tagValue}
 use Rattle.reading.specs.declared.Item.{Item}
 use Rattle.reading.specs.declared.Item.the-variants.{Is, Fails}
+use Rattle.refusal.specs.Refusals.{refusal}
 use Rattle.reading.specs.declared.Reading.{Reading}
 use Rattle.reading.specs.declared.Reading.the-variants.{Slice, End, Refused}
 
@@ -49,7 +50,7 @@ itemOf at s = shapeItem (shapeOf s) at s
 
 -- a refusal with its number and place; its detail is 0
 abbrev pub refused : ℕ → ℕ → ℕ → Reading
-refused n start len = Refused (record { number = n; start = start; length = len; detail = 0 })
+refused n start len = Refused (refusal n start len 0)
 
 -- "5 to 8 carry their slice's place"
 abbrev pub itemReading : Item → ℕ → ℕ → Reading

@@ -3,6 +3,7 @@ ghost use mathlib.Core.Path.{_≡_};
 ghost use Prim.Native.Nat.{_+_, _≤_, _<_};
 ghost use lib.ListN.{length};
 ghost use Rattle.reading.specs.Reading.{parsedItem, tagItem, textItem, itemOf, refused, sliceReading, readingAt, reading};
+use refusal::Refusal;
 use tag::Parsed;
 use token::Shape;
 use value::Place;
@@ -12,13 +13,6 @@ use value::Value;
 pub enum Item {
     Is(Value),
     Fails(u8),
-}
-
-pub struct Refusal {
-    pub number: u8,
-    pub start: u16,
-    pub length: u16,
-    pub detail: u16,
 }
 
 // The slice at the offset and its value, the end of the message, or a refusal.

@@ -32,18 +32,6 @@ pub enum First {
     Refused,
 }
 
-pub fn wide16(x: u8) -> u16
-    ensures { λ r. ⌜ (r ≡ x) × (r < 256) ⌝ }
-{
-    x as u16
-}
-
-fn wide_word(x: u16) -> u32
-    ensures { λ r. ⌜ r ≡ x ⌝ }
-{
-    x as u32
-}
-
 // Two bytes as a number, the lowest first; 0 for each past the end.
 pub fn le16(s: &[u8], at: usize) -> u16
     ensures { λ r. ⌜ r ≡ littleAt 2 at (now (s .entry)) ⌝ }
@@ -51,7 +39,7 @@ pub fn le16(s: &[u8], at: usize) -> u16
     if s.len() <= at {
         return 0;
     }
-    wide16(s[at]) + 256 * wide16(base::byte_at(s, at + 1))
+    base::wide16(s[at]) + 256 * base::wide16(base::byte_at(s, at + 1))
 }
 
 // Four bytes as a number, the lowest first; 0 for each past the end.
@@ -61,7 +49,7 @@ fn le32(s: &[u8], at: usize) -> u32
     if s.len() <= at {
         return 0;
     }
-    wide_word(le16(s, at)) + 65536 * wide_word(le16(s, at + 2))
+    base::word32(le16(s, at)) + 65536 * base::word32(le16(s, at + 2))
 }
 
 // The record at an offset.

@@ -18,7 +18,8 @@ use Rattle.layout.specs.declared.RenderState.{RenderState}
 use Rattle.layout.specs.declared.Entry.{Entry}
 use Rattle.layout.specs.declared.Step.{Step}
 use Rattle.layout.specs.declared.Step.the-variants.{Refuse, Go, Emit, Cut}
-use Rattle.layout.specs.Types.{Item, refusal}
+use Rattle.layout.specs.Types.{Item}
+use Rattle.refusal.specs.Refusals.{refusal}
 use Rattle.layout.specs.Read.{entryOf, withSpan, withLine, spanStep, lineStep, justified, goIf, extent, unit, fits, rectOf, rectFits, withRect, rectStep}
 use Rattle.render.specs.Steps.{itemAt}
 

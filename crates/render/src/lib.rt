@@ -1,15 +1,15 @@
 // Reading a pass: what each value of a message does to the render state, as `render_text_rectangle` has it.
 ghost use mathlib.Core.Path.{_≡_};
 ghost use Prim.Native.Nat.{_-_, _≤_, _<_};
-ghost use Rattle.layout.specs.Types.{refusal as refusalOf};
-ghost use Rattle.layout.specs.Read.{entryOf, withCharSpacing, extent as extentOf, fits as fitsOf, rectOf, rectFits, unit as unitOf, justified as justifiedOf, goIf, withJustLine, withJustPage, fontStep, spanStep, lineStep, surrogate as surrogateOf, above0, hexStep, newLineStep, spacingStep, rectStep, valueStep};
+ghost use Rattle.refusal.specs.Refusals.{refusal as refusalOf};
+ghost use Rattle.layout.specs.Read.{entryOf, withCharSpacing, extent as extentOf, fits as fitsOf, rectOf, rectFits, justified as justifiedOf, goIf, withJustLine, withJustPage, fontStep, spanStep, lineStep, surrogate as surrogateOf, above0, hexStep, newLineStep, spacingStep, rectStep, valueStep};
 ghost use Rattle.render.specs.Steps.{itemAt};
 use layout::Entry;
 use layout::Rect;
 use layout::RenderState;
 use layout::Step;
-use reading::Refusal;
 use records::Config;
+use refusal::Refusal;
 use value::OptFont;
 use value::OptNum;
 use value::Place;
@@ -159,12 +159,6 @@ fn page_just_step(c: Config, st: RenderState, blank: bool, p: Place, j: OptNum) 
     Step::Go(st.with_just_page((n % 256) as u8), blank)
 }
 
-fn unit(n: u8) -> u16
-    ensures { λ r. ⌜ r ≡ unitOf n ⌝ }
-{
-    if n == 0 { 1 } else { n as u16 }
-}
-
 // A size of 0 reaches to the edge.
 fn extent(size: u16, from: u16, all: u16) -> u16
     ensures { λ r. ⌜ r ≡ extentOf size from all ⌝ }
@@ -202,7 +196,7 @@ fn rect_of(c: Config, r: Rectangle) -> Rect
 fn fits(from: u16, size: u16, all: u16, u: u8) -> bool
     ensures { λ r. ⌜ r ≡ fitsOf from size all u ⌝ }
 {
-    let k = unit(u);
+    let k = layout::unit(u);
     if size == 0 {
         return false;
     }

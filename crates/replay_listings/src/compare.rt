@@ -1,7 +1,7 @@
 // Comparing what is computed of a message with its listing, line by line.
 use layout::Answer;
 use layout::Span;
-use reading::Refusal;
+use refusal::Refusal;
 use replay::Input;
 use replay::Phase;
 use replay::Stream;

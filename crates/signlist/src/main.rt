@@ -8,7 +8,7 @@ use layout::Answer;
 use layout::Span;
 use libc::STDIN_FILENO;
 use libc::STDOUT_FILENO;
-use reading::Refusal;
+use refusal::Refusal;
 
 // A sign.bin that can't be opened counts as empty.
 fn read_sign(buf: &mut [u8]) -> usize
@@ -45,7 +45,7 @@ fn print_span(s: Span) {
 
 fn print_refusal(r: Refusal) {
     io::write_all(STDOUT_FILENO, b"refused");
-    print_next(records::wide16(r.number));
+    print_next(base::wide16(r.number));
     print_next(r.start);
     print_next(r.length);
     print_next(r.detail);
