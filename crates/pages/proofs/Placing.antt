@@ -24,26 +24,26 @@ use Rattle.page.specs.declared.OptRefusal.the-variants.{Some, None}
 use Rattle.page.specs.Scan.{faultIs, itemsFrom}
 use Rattle.rows.specs.Rows.{rowsOf, spansOf}
 use Rattle.rows.specs.Measured.{rowOf}
-use Rattle.place.specs.Placed.{rowsFault, rowsRecords}
+use Rattle.place.specs.Placed.{rowsFault, rowsRecords, Placeable, PassPlaced}
 use Rattle.place.proofs.Bridge.{pass-fault, pass-records}
 use Rattle.meter.specs.Gauges.{Opened, meterIn}
-use Rattle.meter.proofs.Proper.{meter-proper, rows-small}
+use Rattle.meter.proofs.Tells.{meter-told}
 use Rattle.pass.specs.declared.PassEnd.{PassEnd}
 use Rattle.pass.specs.declared.PassEnd.the-variants.{Refused as RefusedPass, Cut as CutPass, Turn as TurnPass, End as EndPass}
 use Rattle.pass.specs.Pass.{Ending, cut, turn, ended, entriesOf, endingOf, told, Rows, Inside, Fair}
-use Rattle.pages.specs.Pages.{boardIn, PassReady, Placeable, orRefused, RowsPlaced, stopBy, placedEnding, Written, Fits, Placed}
+use Rattle.pages.specs.Pages.{boardIn, PassReady, orRefused, RowsPlaced, stopBy, placedEnding, Written, Fits, Placed}
 
 -- `place_read`: o is the answer of `place_pass`
-module _ (c : Config) (r : Rect) (rows : List ℕ) (n : ℕ) (out : List ℕ) (at : ℕ) (out′ : List ℕ) (ok : PassEnd) (o : OptRefusal) (e : faultIs o ≡ rowsFault c r (rowsOf rows n)) (w : o ≡ None → spansOf out′ (at + n) ≡ spansOf out at ++ rowsRecords c r (rowsOf rows n)) (l : length out′ ≡ length out) where
+module _ (c : Config) (r : Rect) (rows : List ℕ) (n : ℕ) (out : List ℕ) (at : ℕ) (out′ : List ℕ) (ok : PassEnd) (o : OptRefusal) (d : PassPlaced c r rows n out at out′ o) where
   pub read-refused : (x : Refusal) → o ≡ Some x → RowsPlaced c r rows n out at out′ ok (RefusedPass x)
   read-refused x q =
-      let h : rowsFault c r (rowsOf rows n) ≡ some x = sym e ∙ ap faultIs q in
-      record { ends = ap (λ (y : Option Refusal). orRefused y ok) (sym h); written = λ p. absurd (let z : _≡_ {A = ℕ} 0 1 = cc in omega arith); room = l }
+      let h : rowsFault c r (rowsOf rows n) ≡ some x = sym (d .fault) ∙ ap faultIs q in
+      record { ends = ap (λ (y : Option Refusal). orRefused y ok) (sym h); written = λ p. absurd (let z : _≡_ {A = ℕ} 0 1 = cc in omega arith); room = d .room }
 
   pub read-placed : o ≡ None → RowsPlaced c r rows n out at out′ ok ok
   read-placed q =
-      let h : rowsFault c r (rowsOf rows n) ≡ none = sym e ∙ ap faultIs q in
-      record { ends = ap (λ (y : Option Refusal). orRefused y ok) (sym h); written = λ p. w q; room = l }
+      let h : rowsFault c r (rowsOf rows n) ≡ none = sym (d .fault) ∙ ap faultIs q in
+      record { ends = ap (λ (y : Option Refusal). orRefused y ok) (sym h); written = λ p. d .written q; room = d .room }
 
 -- a pass was read: t is its end, rows₀ were there before it, and rows hold its spans
 module _ (file : List ℕ) (table : SignFile) (msg : List ℕ) (from : ℕ) (st : RenderState) (rows₀ out : List ℕ) (at : ℕ) (rows : List ℕ) (t : PassEnd) (ready : PassReady file table msg rows₀ out from st at) (bytes : (i : ℕ) → Val.Fits w8 (getD file i 0))
@@ -70,7 +70,6 @@ module _ (file : List ℕ) (table : SignFile) (msg : List ℕ) (from : ℕ) (st 
         room = omega arith;
         across = omega (arith, a .good .config .width-most);
         down = omega (arith, a .good .config .height-most);
-        faults = λ j p. rows-small file msg rows n es q j p;
       }
 
   held : {u : PassEnd} → t ≡ u → Rows (rowOf (meterIn file msg)) es rows u
@@ -104,10 +103,10 @@ module _ (file : List ℕ) (table : SignFile) (msg : List ℕ) (from : ℕ) (st 
   module _ (r : Rect) (n : ℕ) (out′ : List ℕ) (ok : PassEnd) (h : rowsOf rows n ≡ map (rowOf (meterIn file msg)) es) (k : told msg ok ≡ end) (p : placedEnding s es end ≡ stopBy (passFault s r es) end)
       (y : spansOf out′ (at + n) ≡ spansOf out at ++ passRecords s r es → Written s es (spansOf out at) out′ ok) (g : Fits c from (length msg) ok) where
     fault-is : rowsFault c r (rowsOf rows n) ≡ passFault s r es
-    fault-is = ap (rowsFault c r) h ∙ pass-fault (meterIn file msg) (meter-proper file msg) c r es
+    fault-is = ap (rowsFault c r) h ∙ pass-fault (meterIn file msg) (meter-told file msg) c r es
 
     records-are : rowsRecords c r (rowsOf rows n) ≡ passRecords s r es
-    records-are = ap (rowsRecords c r) h ∙ pass-records (meterIn file msg) (meter-proper file msg) c r es
+    records-are = ap (rowsRecords c r) h ∙ pass-records (meterIn file msg) (meter-told file msg) c r es
 
     settled : (F : Option Refusal) → F ≡ passFault s r es → (F ≡ none → spansOf out′ (at + n) ≡ spansOf out at ++ rowsRecords c r (rowsOf rows n)) → length out′ ≡ length out → Placed file table msg from st rows₀ out at rows out′ (orRefused F ok)
     settled none q d l = record { ends = k ∙ ap (λ (x : Option Refusal). stopBy x end) q ∙ sym p; written = y (d refl ∙ ap (λ (x : List Span). spansOf out at ++ x) records-are); fits = g; rowed = rowed; room = l }

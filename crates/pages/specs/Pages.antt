@@ -22,8 +22,8 @@ use Rattle.page.specs.declared.PageState.{PageState}
 use Rattle.page.specs.declared.PageState.the-variants.{On as OnState, Off as OffState, Done}
 use Rattle.page.specs.State.{newPage as newState, doneAfter, nextState}
 use Rattle.page.specs.Scan.{itemsFrom}
-use Rattle.rows.specs.Rows.{rowsOf, spansOf}
-use Rattle.place.specs.Placed.{smallFaults, rowsFault, rowsRecords}
+use Rattle.rows.specs.Rows.{RowRoom, SpanRoom, rowsOf, spansOf}
+use Rattle.place.specs.Placed.{rowsFault, rowsRecords}
 use Rattle.meter.specs.Gauges.{Opened, meterIn}
 use Rattle.pass.specs.declared.PassEnd.{PassEnd}
 use Rattle.pass.specs.declared.PassEnd.the-variants.{Refused as RefusedPass, Cut as CutPass, Turn as TurnPass, End as EndPass}
@@ -42,8 +42,8 @@ boardIn file msg c = record { config = c; meter = meterIn file msg }
 pub record Ready (file : List ℕ) (table : SignFile) (msg rows out : List ℕ) : Type 0 where
   pub opened : Opened file table
   pub small : length msg ≤ 2048
-  pub rowed : 19 * length msg ≤ length rows
-  pub room : 15 * length msg ≤ length out
+  pub rowed : RowRoom (length msg) rows
+  pub room : SpanRoom (length msg) out
 
 -- ---- a pass that is placed
 
@@ -53,15 +53,6 @@ pub record PassReady (file : List ℕ) (table : SignFile) (msg rows out : List �
   pub within : from ≤ length msg
   pub counted : at ≤ from
   pub inside : Inside (table .config) (st .rect)
-
--- n rows can be placed in the rectangle r, as records from number at on
-pub record Placeable (r : Rect) (rows : List ℕ) (n : ℕ) (out : List ℕ) (at : ℕ) : Type 0 where
-  pub few : at + n ≤ 2048
-  pub rowed : 19 * n ≤ length rows
-  pub room : 15 * (at + n) ≤ length out
-  pub across : r .left + r .width ≤ 4096
-  pub down : r .top + r .height ≤ 4096
-  pub faults : smallFaults rows n
 
 abbrev pub orRefused : Option Refusal → PassEnd → PassEnd
 orRefused none e = e

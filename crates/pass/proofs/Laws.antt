@@ -31,7 +31,7 @@ use Rattle.layout.proofs.Items.{item-within}
 use Rattle.page.specs.Scan.{itemsFrom}
 use Rattle.render.specs.Steps.{itemAt as placed}
 use Rattle.rows.specs.declared.Row.{Row}
-use Rattle.rows.specs.Rows.{rowsOf, putRow}
+use Rattle.rows.specs.Rows.{rowsOf, putRow, ByteFields, RowPut}
 use Rattle.rows.specs.Measured.{rowOf}
 use Rattle.rows.proofs.Laws.{rows-put}
 use Rattle.sign.specs.declared.SignFile.{SignFile}
@@ -219,7 +219,7 @@ module _ {file : List ℕ} {table : SignFile} {msg : List ℕ} {from : ℕ} {fir
             ending = ends (Emit x st′ b) q;
             entries =
                 ap (λ (y : List ℕ). rowsOf y (n + 1) ++ map f (entriesOf c (itemsFrom r msg) st′ b)) (w .row)
-                ∙ ap (λ (y : List Row). y ++ map f (entriesOf c (itemsFrom r msg) st′ b)) (rows-put rows n (f x) (pass-stores .room) (w .line))
+                ∙ ap (λ (y : List Row). y ++ map f (entriesOf c (itemsFrom r msg) st′ b)) (rows-put rows n (f x) (pass-stores .room) (w .bytes))
                 ∙ append-assoc (rowsOf rows n) (f x ∷ []) (map f (entriesOf c (itemsFrom r msg) st′ b))
                 ∙ spans (Emit x st′ b) q;
             kept = λ y. rw (w .font) (w .kept);
@@ -240,9 +240,11 @@ module _ {file : List ℕ} {table : SignFile} {msg : List ℕ} {from : ℕ} {fir
 
 -- ---- a span's row
 
-pub stored-by : (file : List ℕ) (table : SignFile) (msg : List ℕ) (e : Entry) (rows : List ℕ) (n : ℕ) (widths′ rows′ : List ℕ) (held′ : ℕ) (row : Row) → row ≡ rowOf (meterIn file msg) e → row .line < 256 → rows′ ≡ putRow rows n row → length rows′ ≡ length rows → held′ ≡ e .state .font → Held file table (e .state .font) widths′
+pub stored-by : (file : List ℕ) (table : SignFile) (msg : List ℕ) (e : Entry) (rows : List ℕ) (n : ℕ) (widths′ rows′ : List ℕ) (held′ : ℕ) (row : Row)
+    → row ≡ rowOf (meterIn file msg) e → RowPut rows n row rows′ → held′ ≡ e .state .font → Held file table (e .state .font) widths′
     → Stored file table msg e rows n widths′ rows′ held′
-stored-by file table msg e rows n widths′ rows′ held′ row p k d l q w = record { row = d ∙ ap (putRow rows n) p; line = subst (λ (y : Row). y .line < 256) p k; font = q; kept = w; room = l }
+stored-by file table msg e rows n widths′ rows′ held′ row p d q w =
+    record { row = d .put ∙ ap (putRow rows n) p; bytes = subst ByteFields p (d .bytes); font = q; kept = w; room = d .room }
 
 -- ---- the widths of a font
 

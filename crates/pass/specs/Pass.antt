@@ -17,7 +17,7 @@ use Rattle.layout.specs.Types.{Item, itemAt}
 use Rattle.layout.specs.Read.{step, Scan, scan, Event, pass, close, stop, stopIf, newPage, read}
 use Rattle.page.specs.Scan.{itemsFrom}
 use Rattle.rows.specs.declared.Row.{Row}
-use Rattle.rows.specs.Rows.{rowsOf, putRow}
+use Rattle.rows.specs.Rows.{RowRoom, rowsOf, putRow, ByteFields}
 use Rattle.rows.specs.Measured.{rowOf}
 use Rattle.meter.specs.Gauges.{Opened, Held, Readable, meterIn}
 use Rattle.pass.specs.declared.PassEnd.{PassEnd}
@@ -106,12 +106,12 @@ pub record Storable (file : List ℕ) (table : SignFile) (msg : List ℕ) (e : E
   pub reads : Readable msg e
   pub kept : held < 256 → Held file table held widths
   pub few : n < 2048
-  pub room : 19 * n + 19 ≤ length rows
+  pub room : RowRoom (n + 1) rows
 
 -- it was: the widths are those of its font
 pub record Stored (file : List ℕ) (table : SignFile) (msg : List ℕ) (e : Entry) (rows : List ℕ) (n : ℕ) (widths′ rows′ : List ℕ) (held′ : ℕ) : Type 0 where
   pub row : rows′ ≡ putRow rows n (rowOf (meterIn file msg) e)
-  pub line : rowOf (meterIn file msg) e .line < 256
+  pub bytes : ByteFields (rowOf (meterIn file msg) e)
   pub font : held′ ≡ e .state .font
   pub kept : Held file table (e .state .font) widths′
   pub room : length rows′ ≡ length rows
@@ -121,7 +121,7 @@ pub record PassAsked (file : List ℕ) (table : SignFile) (msg : List ℕ) (from
   pub opened : Opened file table
   pub small : length msg ≤ 2048
   pub within : from ≤ length msg
-  pub enough : 19 * length msg ≤ length rows
+  pub enough : RowRoom (length msg) rows
   pub inside : Inside (table .config) (first .rect)
 
 -- the pass from a place on was read, and ended so; rows were there before it, and rows′ are after it
