@@ -1,5 +1,5 @@
 -- The sums of the loop are those of the definition.
-use Prim.Native.Nat.{ℕ, _+_, _-_, _/_, _≤_, _<_}
+use Prim.Native.Nat.{ℕ, _+_, _-_, _*_, _/_, _≤_, _<_}
 use native.Mathlib.Omega.{arith}
 use mathlib.Core.Path.{_≡_, refl, sym, _∙_, ap}
 use mathlib.Core.Bool.{Bool, true, false}
@@ -13,12 +13,13 @@ use Rattle.value.specs.declared.OptNum.the-variants.{Some, None}
 use Rattle.layout.specs.declared.Entry.{Entry}
 use Rattle.layout.specs.Types.{given, Meter}
 use Rattle.layout.specs.Place.{orElse, firstFault, keep, select, same, due, gap, before, after}
+use Rattle.rows.specs.declared.Fault.{Fault}
 use Rattle.rows.specs.declared.Row.{Row}
-use Rattle.rows.specs.Rows.{cells, rowAt, rowsOf}
-use Rattle.rows.specs.Measured.{flag, faultNumber, faultDetail, rowOf, faultOf, Proper}
-use Rattle.rows.proofs.Laws.{cells-next, cells-done}
+use Rattle.rows.specs.Rows.{cells, RowRoom, rowAt, rowsOf}
+use Rattle.rows.specs.Measured.{flag, faultNumber, faultDetail, rowOf, faultOf, RowTells}
+use Rattle.rows.proofs.Laws.{cells-next, cells-done, earlier-is}
 use Rattle.across.specs.declared.Sums.{Sums}
-use Rattle.across.specs.Sums.{sameRow, gapOf, joinedBy, joined, advanced, sums, noneYet}
+use Rattle.across.specs.Sums.{sameRow, gapOf, firstOf, joinedBy, joined, advanced, sums, noneYet, GrownTo, SumsOf}
 
 -- ---- the functions
 
@@ -46,56 +47,62 @@ module _ (o : Sums) (e : Row) where
   pub gap-half : o .seen ≡ true → (e .fixed ≡ 1 → ⊥) → (r : ℕ) → r ≡ (o .spacing + e .spacing + 1) / 2 → r ≡ gapOf o e
   gap-half h k r d = rw (h, ne-eqb (e .fixed) 1 k) d
 
+pub ruleset gap-ways = (gap-none, gap-fixed, gap-half)
+
 -- `join`: at most a gap and a width more
 halves : (t : Bool) (x : ℕ) → pick t x 0 + pick t 0 x ≡ x
 halves true x = omega arith
 halves false x = omega arith
 
--- g is what `gap` answered, w the width
-module _ (n : ℕ) (o : Sums) (e : Row) (g : ℕ) (h : g ≡ gapOf o e) (i : g < 65536) (w : ℕ) (k : w ≡ e .width) (j : w < 4294967296) where
-  pub joins : (b a f d : ℕ)
-      → b ≡ o .before + pick (leb (e .span) n) g 0 + pick (ltb (e .span) n) w 0
-      → a ≡ o .after + pick (leb (e .span) n) 0 g + pick (ltb (e .span) n) 0 w
-      → f ≡ pick (eqb (o .fault) 0) (e .fault) (o .fault)
-      → d ≡ pick (eqb (o .fault) 0) (e .detail) (o .detail)
-      → (record { before = b; after = a; seen = true; spacing = e .spacing; fault = f; detail = d } ≡ joined n o e) × (b + a ≤ o .before + o .after + 8589934592)
-  joins b a f d p q r s = (
-    rw (p, q, r, s, k) (ap (joinedBy n o e) h),
-    omega (arith, halves (leb (e .span) n) g, halves (ltb (e .span) n) w),
-  )
+-- g is what `gap` answered, w the width, f the first fault
+pub joins : (n : ℕ) (o : Sums) (e : Row) {g : ℕ} → (g ≡ gapOf o e) × (g < 65536) → {w : ℕ} → (w ≡ e .width) × (w < 4294967296) → {f : Fault} → f ≡ firstOf o e
+    → {b : ℕ} → b ≡ o .before + pick (leb (e .span) n) g 0 + pick (ltb (e .span) n) w 0
+    → {a : ℕ} → a ≡ o .after + pick (leb (e .span) n) 0 g + pick (ltb (e .span) n) 0 w
+    → GrownTo o (joined n o e) (record { before = b; after = a; seen = true; spacing = e .spacing; fault = f .number; detail = f .detail })
+joins n o e {g} hg {w} hw hf p q =
+    record {
+      is = rw (p, q, hf, hw .0) (ap (joinedBy n o e) (hg .0));
+      most = omega (arith, halves (leb (e .span) n) g, halves (ltb (e .span) n) w);
+    }
 
 -- `advance`: s is what `matches_span` answered
-module _ (r : Row) (o : Sums) (e : Row) (s : Bool) (f : s ≡ sameRow r e) where
-  here : (t : Bool) (q : Sums) → t ≡ true → q ≡ joined (r .span) o e → q ≡ pick t (joined (r .span) o e) o
-  here t q h k = rw h k
-
-  away : (t : Bool) → t ≡ false → o ≡ pick t (joined (r .span) o e) o
-  away t h = rw h
-
-  pub advance-join : (q : Sums) → s ≡ true → q ≡ joined (r .span) o e → q ≡ advanced r o e
+module _ (r : Row) (o : Sums) (e : Row) {s : Bool} (f : s ≡ sameRow r e) where
+  picked : (t : Bool) → sameRow r e ≡ t → advanced r o e ≡ pick t (joined (r .span) o e) o
   unfolding advanced
-  advance-join q h k = here (sameRow r e) q (sym f ∙ h) k
+  picked t h = ap (λ (b : Bool). pick b (joined (r .span) o e) o) h
 
-  pub advance-stay : s ≡ false → o ≡ advanced r o e
-  unfolding advanced
-  advance-stay h = away (sameRow r e) (sym f ∙ h)
+  pub advance-join : {q : Sums} → s ≡ true → GrownTo o (joined (r .span) o e) q → GrownTo o (advanced r o e) q
+  advance-join h k = record { is = k .is ∙ sym (picked true (sym f ∙ h)); most = k .most }
 
-pub ruleset advance-ways = (advance-join, advance-stay)
+  pub advance-stay : s ≡ false → GrownTo o (advanced r o e) o
+  advance-stay h = record { is = sym (picked false (sym f ∙ h)); most = omega arith }
 
--- ---- the loop
+-- ---- the loop: the sums of the first i rows
 
-module _ (r : Row) (o : Sums) (l : List ℕ) (n i : ℕ) (q : Sums) (inv : sums r o (cells (rowAt l) i (n - i)) ≡ q) where
-  pub sums-end : n ≤ i → o ≡ q
-  sums-end h = rw (cells-done (rowAt l) i n h) at inv
+pub record Summing (rows : List ℕ) (n : ℕ) (r : Row) (o : Sums) (i : ℕ) : Type 0 where
+  pub few : n ≤ 2048
+  pub room : RowRoom n rows
+  pub within : i ≤ n
+  pub most : o .before + o .after ≤ 8589934592 * i
+  pub rest : sums r o (cells (rowAt rows) i (n - i)) ≡ sums r noneYet (rowsOf rows n)
 
-  pub sums-on : i < n → (e : Row) → e ≡ rowAt l i → (p : Sums) → p ≡ advanced r o e → sums r p (cells (rowAt l) (i + 1) (n - (i + 1))) ≡ q
-  sums-on h e k p d = rw (d, k) (rw (cells-next (rowAt l) i n h) at inv)
-
-pub sums-start : (r : Row) (l : List ℕ) (n : ℕ) → sums r noneYet (cells (rowAt l) 0 (n - 0)) ≡ sums r noneYet (rowsOf l n)
+pub sums-start : {rows : List ℕ} {n : ℕ} {r : Row} → (n ≤ 2048) × RowRoom n rows → Summing rows n r noneYet 0
 unfolding rowsOf
-sums-start r l n = let e : n - 0 ≡ n = omega arith in rw e
+sums-start {n = n} h = record { few = h .0; room = h .1; within = omega arith; most = omega arith; rest = let e : n - 0 ≡ n = omega arith in rw e }
 
-pub ruleset sums-ways = (sums-start, sums-on, sums-end)
+module _ {rows : List ℕ} {n : ℕ} {r : Row} {o : Sums} {i : ℕ} (z : Summing rows n r o i) where
+  pub sums-on : i < n → {e : Row} → e ≡ rowAt rows i → {p : Sums} → GrownTo o (advanced r o e) p → Summing rows n r p (i + 1)
+  sums-on h k d =
+      record {
+        few = z .few;
+        room = z .room;
+        within = omega arith;
+        most = omega (arith, d .most, z .most);
+        rest = rw (d .is, k) (rw (cells-next (rowAt rows) i n h) at (z .rest));
+      }
+
+  pub sums-end : n ≤ i → SumsOf rows n r o
+  sums-end h = record { is = rw (cells-done (rowAt rows) i n h) at (z .rest); most = omega (arith, z .most, z .within, z .few) }
 
 -- ---- the definitions
 
@@ -104,7 +111,7 @@ unfolding orElse
 assoc none b c = refl
 assoc (some x) b c = refl
 
-module _ (m : Meter) (p : Proper m) where
+module _ (m : Meter) (p : RowTells m) where
   -- the sums after the span before, if there is one
   abbrev Follows : Sums → Option Entry → Type 0
   Follows o none = o .seen ≡ false
@@ -119,11 +126,11 @@ module _ (m : Meter) (p : Proper m) where
   gap-is o none e k = rw k
   gap-is o (some q) e k = rw (k .0, k .1) (due-is e ((m .spacing q + m .spacing e + 1) / 2) (e .state .«char_spacing») refl)
 
-  fault-is : (t : Bool) (a d : ℕ) (e : Entry) → eqb a 0 ≡ t
-      → faultOf (pick t (faultNumber (m .fault e)) a) (pick t (faultDetail (m .fault e)) d) ≡ orElse (pick t none (some (a, d))) (m .fault e)
-  unfolding orElse
-  fault-is true a d e k = p .whole e
-  fault-is false a d e k = rw k
+  fault-is : (o : Sums) (e : Entry) → faultOf (firstOf o (rowOf m e) .number) (firstOf o (rowOf m e) .detail)
+      ≡ orElse (faultOf (o .fault) (o .detail)) (m .fault e)
+  fault-is o e =
+      earlier-is (record { number = o .fault; detail = o .detail }) (record { number = faultNumber (m .fault e); detail = faultDetail (m .fault e) })
+      ∙ ap (orElse (faultOf (o .fault) (o .detail))) (p .whole e)
 
   record Agree (n : ℕ) (o : Sums) (q : Option Entry) (l : List Entry) (s : Sums) : Type 0 where
     pub before : s .before ≡ o .before + before m n q l
@@ -139,21 +146,26 @@ module _ (m : Meter) (p : Proper m) where
       last (some x) = refl
 
   -- e joins the sums o, and the rest es makes s of them
-  agree-join : (n : ℕ) (o : Sums) (q : Option Entry) (e : Entry) (es : List Entry) (s : Sums) → Follows o q → Agree n (joined n o (rowOf m e)) (some e) es s → Agree n o q (e ∷ es) s
+  agree-join : (n : ℕ) (o : Sums) (q : Option Entry) (e : Entry) (es : List Entry) (s : Sums) → Follows o q → Agree n (joined n o (rowOf m e)) (some e) es s
+      → Agree n o q (e ∷ es) s
   agree-join n o q e es s k h =
       let g : gapOf o (rowOf m e) ≡ gap m q e = gap-is o q e k in
       record {
         before = h .before ∙ rw g (omega arith);
         after = h .after ∙ rw g (omega arith);
-        fault = h .fault ∙ ap (λ (f : Option (ℕ × ℕ)). orElse f (firstFault (m .fault) es)) (fault-is (eqb (o .fault) 0) (o .fault) (o .detail) e refl) ∙ assoc (faultOf (o .fault) (o .detail)) (m .fault e) (firstFault (m .fault) es);
+        fault =
+            h .fault ∙ ap (λ (f : Option (ℕ × ℕ)). orElse f (firstFault (m .fault) es)) (fault-is o e)
+            ∙ assoc (faultOf (o .fault) (o .detail)) (m .fault e) (firstFault (m .fault) es);
       }
 
-  agree : (r : Entry) (o : Sums) (q : Option Entry) (es : List Entry) → Follows o q → Agree (r .state .span) o q (select (same r) es) (sums (rowOf m r) o (map (rowOf m) es))
+  agree : (r : Entry) (o : Sums) (q : Option Entry) (es : List Entry) → Follows o q
+      → Agree (r .state .span) o q (select (same r) es) (sums (rowOf m r) o (map (rowOf m) es))
   unfolding advanced
   agree r o q [] k = agree-none (r .state .span) o q
   agree r o q (e ∷ es) k = step (same r e) (λ p x d. agree r p x es d)
     where
-      step : (t : Bool) → ((p : Sums) (x : Option Entry) → Follows p x → Agree (r .state .span) p x (select (same r) es) (sums (rowOf m r) p (map (rowOf m) es)))
+      step : (t : Bool)
+          → ((p : Sums) (x : Option Entry) → Follows p x → Agree (r .state .span) p x (select (same r) es) (sums (rowOf m r) p (map (rowOf m) es)))
           → Agree (r .state .span) o q (keep t e (select (same r) es)) (sums (rowOf m r) (pick t (joined (r .state .span) o (rowOf m e)) o) (map (rowOf m) es))
       step true ih = agree-join (r .state .span) o q e (select (same r) es) _ k (ih (joined (r .state .span) o (rowOf m e)) (some e) (refl, refl))
       step false ih = ih o q k
@@ -165,6 +177,7 @@ module _ (m : Meter) (p : Proper m) where
   pub across-after : (es : List Entry) (e : Entry) → sums (rowOf m e) noneYet (map (rowOf m) es) .after ≡ after m (e .state .span) none (select (same e) es)
   across-after es e = omega (arith, agree e noneYet none es refl .after)
 
-  pub across-fault : (es : List Entry) (e : Entry) → faultOf (sums (rowOf m e) noneYet (map (rowOf m) es) .fault) (sums (rowOf m e) noneYet (map (rowOf m) es) .detail) ≡ firstFault (m .fault) (select (same e) es)
+  pub across-fault : (es : List Entry) (e : Entry)
+      → (let s : Sums = sums (rowOf m e) noneYet (map (rowOf m) es) in faultOf (s .fault) (s .detail) ≡ firstFault (m .fault) (select (same e) es))
   unfolding orElse
   across-fault es e = agree e noneYet none es refl .fault

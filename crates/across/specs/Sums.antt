@@ -1,10 +1,14 @@
 -- Offsets across as the loop makes them: one step for each row of the pass.
-use Prim.Native.Nat.{ℕ, _+_, _/_}
+use Prim.Native.Nat.{ℕ, _+_, _/_, _≤_}
+use mathlib.Core.Path.{_≡_}
 use mathlib.Core.Bool.{Bool, true, false, _&&_}
 use mathlib.Core.List.{List, [], _∷_}
 use lib.Dec.{leb, ltb, eqb}
 use Rattle.base.specs.Pick.{pick}
+use Rattle.rows.specs.declared.Fault.{Fault}
 use Rattle.rows.specs.declared.Row.{Row}
+use Rattle.rows.specs.Rows.{rowsOf}
+use Rattle.rows.specs.Measured.{earlierOf}
 use Rattle.across.specs.declared.Sums.{Sums}
 
 -- `matches_span`
@@ -15,6 +19,10 @@ sameRow r e = eqb (r .«just_page») (e .«just_page») && (eqb (r .line) (e .li
 abbrev pub gapOf : Sums → Row → ℕ
 gapOf o e = pick (o .seen) (pick (eqb (e .fixed) 1) (e .spacing) ((o .spacing + e .spacing + 1) / 2)) 0
 
+-- the first fault, with a row more
+abbrev pub firstOf : Sums → Row → Fault
+firstOf o e = earlierOf (record { number = o .fault; detail = o .detail }) (record { number = e .fault; detail = e .detail })
+
 -- a row of the group joins the sums for span number n, with the gap before it
 abbrev pub joinedBy : ℕ → Sums → Row → ℕ → Sums
 joinedBy n o e g =
@@ -23,8 +31,8 @@ joinedBy n o e g =
       after = o .after + pick (leb (e .span) n) 0 g + pick (ltb (e .span) n) 0 (e .width);
       seen = true;
       spacing = e .spacing;
-      fault = pick (eqb (o .fault) 0) (e .fault) (o .fault);
-      detail = pick (eqb (o .fault) 0) (e .detail) (o .detail);
+      fault = firstOf o e .number;
+      detail = firstOf o e .detail;
     }
 
 abbrev pub joined : ℕ → Sums → Row → Sums
@@ -42,3 +50,13 @@ sums r o (e ∷ es) = sums r (advanced r o e) es
 -- before the first row
 abbrev pub noneYet : Sums
 noneYet = record { before = 0; after = 0; seen = false; spacing = 0; fault = 0; detail = 0 }
+
+-- the sums o have become next: a gap and a width more at most
+pub record GrownTo (o next q : Sums) : Type 0 where
+  pub is : q ≡ next
+  pub most : q .before + q .after ≤ o .before + o .after + 8589934592
+
+-- the sums of the first n rows, for the span with the row r
+pub record SumsOf (rows : List ℕ) (n : ℕ) (r : Row) (s : Sums) : Type 0 where
+  pub is : s ≡ sums r noneYet (rowsOf rows n)
+  pub most : s .before + s .after ≤ 17592186044416

@@ -1,11 +1,10 @@
 // Offsets across of a span within its group, as a fold over the rows of a pass.
 ghost use mathlib.Core.Path.{_≡_};
-ghost use Prim.Native.Nat.{_+_, _*_, _/_, _≤_, _<_};
-ghost use lib.Dec.{eqb};
-ghost use lib.ListN.{length};
+ghost use Prim.Native.Nat.{_+_, _/_, _≤_, _<_};
 ghost use Rattle.base.specs.Pick.{pick};
-ghost use Rattle.rows.specs.Rows.{rowsOf};
-ghost use Rattle.across.specs.Sums.{sameRow, gapOf, joined, advanced, sums, noneYet};
+ghost use Rattle.rows.specs.Rows.{RowRoom};
+ghost use Rattle.across.specs.Sums.{sameRow, gapOf, joined, advanced, GrownTo, SumsOf};
+use rows::Fault;
 use rows::Row;
 
 // Of the rows so far: what stands before the span and what from there on, whether the group has begun, the spacing of its last row, and number
@@ -15,7 +14,7 @@ pub struct Sums {
     pub after: u64,
     pub seen: bool,
     pub spacing: u16,
-    pub fault: u16,
+    pub fault: u8,
     pub detail: u16,
 }
 
@@ -77,39 +76,38 @@ fn add_else(s: u64, b: bool, g: u64, c: bool, w: u64) -> u64
     s + when(b, 0, g) + when(c, 0, w)
 }
 
-// x where there is no fault a so far, else y.
-fn first(a: u16, x: u16, y: u16) -> u16
-    ensures { λ r. ⌜ r ≡ pick (eqb a 0) x y ⌝ }
-{
-    if a == 0 {
-        return x;
-    }
-    y
-}
-
 // A row of the group joins.
 fn join(n: u16, o: Sums, e: Row) -> Sums
     requires { ⌜ o .before + o .after ≤ 17592186044416 ⌝ }
-    ensures { λ q. ⌜ (q ≡ joined n o e) × (q .before + q .after ≤ o .before + o .after + 8589934592) ⌝ }
+    ensures { λ q. ⌜ GrownTo o (joined n o e) q ⌝ }
 {
     let g = gap(o, e);
     let w = base::long64(e.width);
     let upto = e.span <= n;
     let less = e.span < n;
+    let met = Fault {
+        number: o.fault,
+        detail: o.detail,
+    };
+    let own = Fault {
+        number: e.fault,
+        detail: e.detail,
+    };
+    let f = rows::earlier(met, own);
     Sums {
         before: add_where(o.before, upto, g, less, w),
         after: add_else(o.after, upto, g, less, w),
         seen: true,
         spacing: e.spacing,
-        fault: first(o.fault, e.fault, o.fault),
-        detail: first(o.fault, e.detail, o.detail),
+        fault: f.number,
+        detail: f.detail,
     }
 }
 
 // The sums after one row more of the pass.
 fn advance(o: Sums, r: Row, e: Row) -> Sums
     requires { ⌜ o .before + o .after ≤ 17592186044416 ⌝ }
-    ensures { λ q. ⌜ (q ≡ advanced r o e) × (q .before + q .after ≤ o .before + o .after + 8589934592) ⌝ }
+    ensures { λ q. ⌜ GrownTo o (advanced r o e) q ⌝ }
 {
     if matches_span(r, e) {
         return join(r.span, o, e);
@@ -119,8 +117,8 @@ fn advance(o: Sums, r: Row, e: Row) -> Sums
 
 // The sums of a pass of n rows, for the span with the row r.
 pub fn offset_horiz(rows: &[u16], n: usize, r: Row) -> Sums
-    requires { ⌜ (n ≤ 2048) × (19 * n ≤ length (now rows)) ⌝ }
-    ensures { λ s. ⌜ (s ≡ sums r noneYet (rowsOf (now (rows .entry)) n)) × (s .before + s .after ≤ 17592186044416) ⌝ }
+    requires { ⌜ (n ≤ 2048) × RowRoom n (now rows) ⌝ }
+    ensures { λ s. ⌜ SumsOf (now (rows .entry)) n r s ⌝ }
 {
     let mut o = Sums {
         before: 0,

@@ -10,7 +10,7 @@ use Rattle.value.specs.declared.OptNum.the-variants.{Some, None}
 use Rattle.layout.specs.declared.Entry.{Entry}
 use Rattle.layout.specs.Types.{given, Meter}
 use Rattle.layout.specs.Place.{Line, addLine, lineOf, lines, orElse, firstFault, keep, select, samePage}
-use Rattle.rows.specs.Measured.{flag, rowOf, faultOf, fontNumber, faultNumber, faultDetail, Proper}
+use Rattle.rows.specs.Measured.{flag, rowOf, faultOf, fontNumber, faultNumber, faultDetail, RowTells}
 use Rattle.lines.specs.Lines.{optOf, rowLine, linesFrom, rowFault, fontFaultFrom}
 
 opt-same : (o : OptNum) → optOf (flag o) (given o 0) ≡ o
@@ -29,25 +29,37 @@ module _ (m : Meter) where
   from-lines e ls [] = refl
   from-lines e ls (x ∷ es) = look (samePage e x) (λ l. from-lines e l es)
     where
-      look : (t : Bool) → ((l : List Line) → linesFrom (e .state .«just_page») l (map (rowOf m) es) ≡ lines m l (select (samePage e) es))
-          → linesFrom (e .state .«just_page») (pick t (addLine (x .state .line) (rowLine (rowOf m x)) ls) ls) (map (rowOf m) es) ≡ lines m ls (keep t x (select (samePage e) es))
-      look true h = ap (λ (l : Line). linesFrom (e .state .«just_page») (addLine (x .state .line) l ls) (map (rowOf m) es)) (line-same x) ∙ h (addLine (x .state .line) (lineOf m x) ls)
+      gather : List Line → List Line
+      gather l = linesFrom (e .state .«just_page») l (map (rowOf m) es)
+
+      look : (t : Bool) → ((l : List Line) → gather l ≡ lines m l (select (samePage e) es))
+          → gather (pick t (addLine (x .state .line) (rowLine (rowOf m x)) ls) ls) ≡ lines m ls (keep t x (select (samePage e) es))
+      look true h = ap (λ (l : Line). gather (addLine (x .state .line) l ls)) (line-same x) ∙ h (addLine (x .state .line) (lineOf m x) ls)
       look false h = h ls
 
   -- the lines of the rows of es are those of the entries with e's page justification
-  pub lines-measured : Proper m → (es : List Entry) (e : Entry) → linesFrom (e .state .«just_page») [] (map (rowOf m) es) ≡ lines m [] (select (samePage e) es)
+  pub lines-measured : RowTells m → (es : List Entry) (e : Entry) → linesFrom (e .state .«just_page») [] (map (rowOf m) es)
+      ≡ lines m [] (select (samePage e) es)
   lines-measured p es e = from-lines e [] es
 
-  from-faults : Proper m → (e : Entry) (es : List Entry) → firstFault (rowFault (e .state .«just_page»)) (map (rowOf m) es) ≡ firstFault (m .fontFault) (select (samePage e) es)
+  from-faults : RowTells m → (e : Entry) (es : List Entry) → firstFault (rowFault (e .state .«just_page»)) (map (rowOf m) es)
+      ≡ firstFault (m .fontFault) (select (samePage e) es)
   from-faults p e [] = refl
   from-faults p e (x ∷ es) = look (samePage e x) (from-faults p e es)
     where
-      look : (t : Bool) → firstFault (rowFault (e .state .«just_page»)) (map (rowOf m) es) ≡ firstFault (m .fontFault) (select (samePage e) es)
-          → orElse (pick t (faultOf (fontNumber (faultNumber (m .fault x))) (faultDetail (m .fault x))) none) (firstFault (rowFault (e .state .«just_page»)) (map (rowOf m) es)) ≡ firstFault (m .fontFault) (keep t x (select (samePage e) es))
-      look true h = ap (λ (o : Option (ℕ × ℕ)). orElse o (firstFault (rowFault (e .state .«just_page»)) (map (rowOf m) es))) (p .font x) ∙ ap (orElse (m .fontFault x)) h
-      look false h = none-or (firstFault (rowFault (e .state .«just_page»)) (map (rowOf m) es)) ∙ h
+      own : Option (ℕ × ℕ)
+      own = faultOf (fontNumber (faultNumber (m .fault x))) (faultDetail (m .fault x))
+
+      rest : Option (ℕ × ℕ)
+      rest = firstFault (rowFault (e .state .«just_page»)) (map (rowOf m) es)
+
+      look : (t : Bool) → rest ≡ firstFault (m .fontFault) (select (samePage e) es) → orElse (pick t own none) rest
+          ≡ firstFault (m .fontFault) (keep t x (select (samePage e) es))
+      look true h = ap (λ (o : Option (ℕ × ℕ)). orElse o rest) (p .font x) ∙ ap (orElse (m .fontFault x)) h
+      look false h = none-or rest ∙ h
 
   -- and so is their first font fault
-  pub faults-measured : Proper m → (es : List Entry) (e : Entry) → fontFaultFrom (e .state .«just_page») (map (rowOf m) es) ≡ firstFault (m .fontFault) (select (samePage e) es)
+  pub faults-measured : RowTells m → (es : List Entry) (e : Entry) → fontFaultFrom (e .state .«just_page») (map (rowOf m) es)
+      ≡ firstFault (m .fontFault) (select (samePage e) es)
   unfolding fontFaultFrom
   faults-measured p es e = from-faults p e es

@@ -7,19 +7,43 @@ use mathlib.Core.List.{List, [], _∷_}
 use native.Mathlib.Numerals.{add-one}
 use native.Mathlib.Nat.{sub-zero}
 use native.Mathlib.Omega.{arith}
-use lib.Dec.{ltb, eqb}
+use lib.Dec.{ltb}
 use lib.ListN.{length, getD, set, length-set}
 use lib.Seq.{getD-set-same, getD-set-other}
-use borrow.Author.Tests.{ltb-true, ltb-false, eq-eqb, ne-eqb}
+use borrow.Author.Tests.{lt-ltb, le-ltb, ltb-true, ltb-false, eq-eqb, ne-eqb}
 use Rattle.base.specs.Pick.{pick}
-use Rattle.value.specs.declared.OptNum.{OptNum}
-use Rattle.layout.specs.Place.{Line, firstOf, combine, addLine, orElse}
+use Rattle.layout.specs.Place.{Line, combine, addLine, orElse}
+use Rattle.rows.specs.declared.Fault.{Fault}
 use Rattle.rows.specs.declared.Row.{Row}
-use Rattle.rows.specs.Rows.{cells, rowAt, rowsOf}
-use Rattle.rows.specs.Measured.{faultOf, fontNumber}
-use Rattle.rows.proofs.Laws.{cells-next, cells-done}
+use Rattle.rows.specs.Rows.{cells, RowRoom, rowAt, rowsOf}
+use Rattle.rows.specs.Measured.{faultOf, earlierOf, fontNumber}
+use Rattle.rows.proofs.Laws.{cells-next, cells-done, earlier-is}
 use Rattle.lines.specs.declared.LineList.{LineList}
-use Rattle.lines.specs.Lines.{optOf, lineWith, lineAt, linesIn, rowLine, linesFrom, fontFaultFrom}
+use Rattle.lines.specs.declared.TextLine.{TextLine}
+use Rattle.lines.specs.declared.Slot.{Slot}
+use Rattle.lines.specs.Lines.{lineWith, lineAt, lineIs, linesIn, SlotFor, rowLine, linesFrom, fontFaultFrom, LinesOf}
+
+-- ---- `slot_of`
+
+module _ {line count : ℕ} where
+  pub slot-old : count ≤ 256 → line < count → SlotFor line count (record { at = line; old = true; count = count })
+  slot-old k h =
+      let e : ltb line count ≡ true = lt-ltb line count h in
+      record { place = rw e; there = rw e; lines = rw e; room = omega arith; few = k }
+
+  pub slot-new : line < 256 → count ≤ line → SlotFor line count (record { at = count; old = false; count = count + 1 })
+  slot-new k h =
+      let e : ltb line count ≡ false = le-ltb line count h in
+      record { place = rw e; there = rw e; lines = rw e; room = omega arith; few = omega arith }
+
+-- ---- `combine`: h and s are the larger of each
+
+module _ (a b : TextLine) (h s : ℕ) (p : h ≡ max (a .height) (b .height)) (q : s ≡ max (a .«font_spacing») (b .«font_spacing»)) where
+  pub combine-own : a .led ≡ 1 → lineWith h s (a .led) (a .lead) ≡ combine (lineIs a) (lineIs b)
+  combine-own e = rw (p, q, eq-eqb (a .led) 1 e)
+
+  pub combine-next : (a .led ≡ 1 → ⊥) → lineWith h s (b .led) (b .lead) ≡ combine (lineIs a) (lineIs b)
+  combine-next e = rw (p, q, ne-eqb (a .led) 1 e)
 
 -- ---- a line added to cells
 
@@ -34,9 +58,11 @@ module _ (f g : ℕ → Line) (x : Line) (p : ℕ) (o : (j : ℕ) → (j ≡ p �
   add-old i (suc n) zero q h e =
       let z : i ≡ p = omega arith in
       let a : g i ≡ combine (f i) x = ap g z ∙ e ∙ ap (λ (j : ℕ). combine (f j) x) (sym z) in
-      ap (λ (l : Line). l ∷ cells g (suc i) n) a ∙ ap (λ (l : List Line). combine (f i) x ∷ l) (cells-from f g (suc i) n (λ j r. o j (λ s. omega arith)))
+      ap (λ (l : Line). l ∷ cells g (suc i) n) a
+      ∙ ap (λ (l : List Line). combine (f i) x ∷ l) (cells-from f g (suc i) n (λ j r. o j (λ s. omega arith)))
   add-old i (suc n) (suc k) q h e =
-      ap (λ (l : Line). l ∷ cells g (suc i) n) (o i (λ s. omega arith)) ∙ ap (λ (l : List Line). f i ∷ l) (add-old (suc i) n k (omega arith) (omega arith) e)
+      ap (λ (l : Line). l ∷ cells g (suc i) n) (o i (λ s. omega arith))
+      ∙ ap (λ (l : List Line). f i ∷ l) (add-old (suc i) n k (omega arith) (omega arith) e)
 
   add-new : (i n k : ℕ) → p ≡ i + n → n ≤ k → g p ≡ x → cells g i (suc n) ≡ addLine k x (cells f i n)
   add-new i zero k q h e =
@@ -44,82 +70,78 @@ module _ (f g : ℕ → Line) (x : Line) (p : ℕ) (o : (j : ℕ) → (j ≡ p �
       ap (λ (l : Line). l ∷ []) (ap g z ∙ e)
   add-new i (suc n) zero q h e = absurd (omega arith)
   add-new i (suc n) (suc k) q h e =
-      ap (λ (l : Line). l ∷ cells g (suc i) (suc n)) (o i (λ s. omega arith)) ∙ ap (λ (l : List Line). f i ∷ l) (add-new (suc i) n k (omega arith) (omega arith) e)
-
--- a spacing is kept where there is one
-opt-first : (a b p q : ℕ) (t : Bool) → t ≡ eqb a 1 → optOf (pick t a b) (pick t p q) ≡ firstOf (optOf a p) (optOf b q)
-opt-first a b p q true e = rw (← e)
-opt-first a b p q false e = rw (← e)
+      ap (λ (l : Line). l ∷ cells g (suc i) (suc n)) (o i (λ s. omega arith))
+      ∙ ap (λ (l : List Line). f i ∷ l) (add-new (suc i) n k (omega arith) (omega arith) e)
 
 -- ---- the stores of a row
 
-abbrev pub stored : LineList → ℕ → ℕ → ℕ → ℕ → ℕ → ℕ → ℕ → ℕ → LineList
-stored l k h s f d c n w =
+pub record Full (l : LineList) : Type 0 where
+  pub heights : length (l .heights) ≡ 256
+  pub spacings : length (l .«font_spacings») ≡ 256
+  pub led : length (l .led) ≡ 256
+  pub leads : length (l .leads) ≡ 256
+
+-- a line and a fault in their places
+abbrev pub stored : LineList → Slot → TextLine → Fault → LineList
+stored l s t f =
     record {
-      heights = set (l .heights) k h;
-      «font_spacings» = set (l .«font_spacings») k s;
-      led = set (l .led) k f;
-      leads = set (l .leads) k d;
-      count = c;
-      fault = n;
-      detail = w;
+      heights = set (l .heights) (s .at) (t .height);
+      «font_spacings» = set (l .«font_spacings») (s .at) (t .«font_spacing»);
+      led = set (l .led) (s .at) (t .led);
+      leads = set (l .leads) (s .at) (t .lead);
+      count = s .count;
+      fault = f .number;
+      detail = f .detail;
     }
 
-abbrev pub full : LineList → Type 0
-full l = (length (l .heights) ≡ 256) × (length (l .«font_spacings») ≡ 256) × (length (l .led) ≡ 256) × (length (l .leads) ≡ 256)
+module _ (l : LineList) (x : Row) (s : Slot) (t : TextLine) (f : Fault) (full : Full l) (slot : SlotFor (x .line) (l .count) s) where
+  full-stored : Full (stored l s t f)
+  full-stored =
+      record {
+        heights = length-set (l .heights) (s .at) (t .height) ∙ full .heights;
+        spacings = length-set (l .«font_spacings») (s .at) (t .«font_spacing») ∙ full .spacings;
+        led = length-set (l .led) (s .at) (t .led) ∙ full .led;
+        leads = length-set (l .leads) (s .at) (t .lead) ∙ full .leads;
+      }
 
-module _ (l : LineList) (k h s f d c n w : ℕ) (room : k < 256) (a : full l) where
-  pub full-stored : full (stored l k h s f d c n w)
-  full-stored = (length-set (l .heights) k h ∙ a .0, length-set (l .«font_spacings») k s ∙ a .1, length-set (l .led) k f ∙ a .2, length-set (l .leads) k d ∙ a .3)
+  there : lineAt (stored l s t f) (s .at) ≡ lineIs t
+  there =
+      rw (
+        getD-set-same (l .heights) (s .at) (t .height) 0 (omega (arith, full .heights, slot .room)),
+        getD-set-same (l .«font_spacings») (s .at) (t .«font_spacing») 0 (omega (arith, full .spacings, slot .room)),
+        getD-set-same (l .led) (s .at) (t .led) 0 (omega (arith, full .led, slot .room)),
+        getD-set-same (l .leads) (s .at) (t .lead) 0 (omega (arith, full .leads, slot .room)),
+      )
 
-  there : lineAt (stored l k h s f d c n w) k ≡ lineWith h s f d
-  there = rw (getD-set-same (l .heights) k h 0 (omega arith), getD-set-same (l .«font_spacings») k s 0 (omega arith), getD-set-same (l .led) k f 0 (omega arith), getD-set-same (l .leads) k d 0 (omega arith))
+  beside : (j : ℕ) → (j ≡ s .at → ⊥) → lineAt (stored l s t f) j ≡ lineAt l j
+  beside j q =
+      rw (
+        getD-set-other (l .heights) (s .at) j (t .height) 0 q,
+        getD-set-other (l .«font_spacings») (s .at) j (t .«font_spacing») 0 q,
+        getD-set-other (l .led) (s .at) j (t .led) 0 q,
+        getD-set-other (l .leads) (s .at) j (t .lead) 0 q,
+      )
 
-  beside : (j : ℕ) → (j ≡ k → ⊥) → lineAt (stored l k h s f d c n w) j ≡ lineAt l j
-  beside j q = rw (getD-set-other (l .heights) k j h 0 q, getD-set-other (l .«font_spacings») k j s 0 q, getD-set-other (l .led) k j f 0 q, getD-set-other (l .leads) k j d 0 q)
-
-  old-line : (x : Row) → k ≡ x .line → x .line < l .count → c ≡ l .count → lineWith h s f d ≡ combine (lineAt l k) (rowLine x) → linesIn (stored l k h s f d c n w) ≡ addLine (x .line) (rowLine x) (linesIn l)
+  -- t is the line of the row, with what stood in its place
+  lines-stored : lineIs t ≡ pick (s .old) (combine (lineAt l (s .at)) (rowLine x)) (rowLine x)
+      → linesIn (stored l s t f) ≡ addLine (x .line) (rowLine x) (linesIn l)
   unfolding linesIn
-  old-line x e r q z =
-      ap (cells (lineAt (stored l k h s f d c n w)) 0) q
-      ∙ add-old (lineAt l) (lineAt (stored l k h s f d c n w)) (rowLine x) k beside 0 (l .count) (x .line) (omega arith) r (there ∙ z)
-
-  new-line : (x : Row) → k ≡ l .count → l .count ≤ x .line → c ≡ l .count + 1 → lineWith h s f d ≡ rowLine x → linesIn (stored l k h s f d c n w) ≡ addLine (x .line) (rowLine x) (linesIn l)
-  unfolding linesIn
-  new-line x e r q z =
-      ap (cells (lineAt (stored l k h s f d c n w)) 0) (q ∙ add-one (l .count))
-      ∙ add-new (lineAt l) (lineAt (stored l k h s f d c n w)) (rowLine x) k beside 0 (l .count) (x .line) (omega arith) r (there ∙ z)
-
--- what is stored, as the calls answered it; kept is whether the line keeps its own spacing
-module _ (l : LineList) (x : Row) (k c : ℕ) (old : Bool) (ek : k ≡ pick (ltb (x .line) (l .count)) (x .line) (l .count)) (eo : old ≡ ltb (x .line) (l .count)) (ec : c ≡ pick (ltb (x .line) (l .count)) (l .count) (l .count + 1)) where
-  pub lines-turn : k < 256 → full l
-      → (h s f d n w : ℕ) (kept : Bool)
-      → h ≡ pick old (max (getD (l .heights) k 0) (x .height)) (x .height)
-      → s ≡ pick old (max (getD (l .«font_spacings») k 0) (x .«font_spacing»)) (x .«font_spacing»)
-      → kept ≡ pick old (eqb (getD (l .led) k 0) 1) false
-      → f ≡ pick kept (getD (l .led) k 0) (x .led)
-      → d ≡ pick kept (getD (l .leads) k 0) (x .lead)
-      → linesIn (stored l k h s f d c n w) ≡ addLine (x .line) (rowLine x) (linesIn l)
-  lines-turn a b h s f d n w kept eh es et ef ed = look (ltb (x .line) (l .count)) refl ek eo ec
+  lines-stored e = look (ltb (x .line) (l .count)) refl (slot .place) (slot .there) (slot .lines)
     where
-      look : (t : Bool) → ltb (x .line) (l .count) ≡ t → k ≡ pick t (x .line) (l .count) → old ≡ t → c ≡ pick t (l .count) (l .count + 1) → linesIn (stored l k h s f d c n w) ≡ addLine (x .line) (rowLine x) (linesIn l)
-      look true q e r y =
-          let t : kept ≡ eqb (getD (l .led) k 0) 1 = et ∙ ap (λ (z : Bool). pick z (eqb (getD (l .led) k 0) 1) false) r in
-          let hs : h ≡ max (getD (l .heights) k 0) (x .height) = eh ∙ ap (λ (z : Bool). pick z (max (getD (l .heights) k 0) (x .height)) (x .height)) r in
-          let ss : s ≡ max (getD (l .«font_spacings») k 0) (x .«font_spacing») = es ∙ ap (λ (z : Bool). pick z (max (getD (l .«font_spacings») k 0) (x .«font_spacing»)) (x .«font_spacing»)) r in
-          old-line l k h s f d c n w a b x e (ltb-true (x .line) (l .count) q) y
-          (rw (hs, ss, ef, ed) (ap (λ (o : OptNum). record { height = max (getD (l .heights) k 0) (x .height); fontSpacing = max (getD (l .«font_spacings») k 0) (x .«font_spacing»); lineSpacing = o }) (opt-first (getD (l .led) k 0) (x .led) (getD (l .leads) k 0) (x .lead) kept t)))
-      look false q e r y =
-          let t : kept ≡ false = et ∙ ap (λ (z : Bool). pick z (eqb (getD (l .led) k 0) 1) false) r in
-          new-line l k h s f d c n w a b x e (ltb-false (x .line) (l .count) q) y
-          (rw (eh, es, ef, ed, r, t))
+      look : (b : Bool) → ltb (x .line) (l .count) ≡ b → s .at ≡ pick b (x .line) (l .count) → s .old ≡ b → s .count ≡ pick b (l .count) (l .count + 1)
+          → linesIn (stored l s t f) ≡ addLine (x .line) (rowLine x) (linesIn l)
+      look true q k o c =
+          let z : lineIs t ≡ combine (lineAt l (s .at)) (rowLine x) = e ∙ ap (λ (b : Bool). pick b (combine (lineAt l (s .at)) (rowLine x)) (rowLine x)) o in
+          ap (cells (lineAt (stored l s t f)) 0) c
+          ∙ add-old (lineAt l) (lineAt (stored l s t f)) (rowLine x) (s .at) beside 0 (l .count) (x .line) (omega arith)
+          (ltb-true (x .line) (l .count) q) (there ∙ z)
+      look false q k o c =
+          let z : lineIs t ≡ rowLine x = e ∙ ap (λ (b : Bool). pick b (combine (lineAt l (s .at)) (rowLine x)) (rowLine x)) o in
+          ap (cells (lineAt (stored l s t f)) 0) (c ∙ add-one (l .count))
+          ∙ add-new (lineAt l) (lineAt (stored l s t f)) (rowLine x) (s .at) beside 0 (l .count) (x .line) (omega arith)
+          (ltb-false (x .line) (l .count) q) (there ∙ z)
 
--- ---- the fold over the rows
-
-faults-first : (n d m w : ℕ) (t : Bool) → t ≡ eqb n 0 → faultOf (pick t m n) (pick t w d) ≡ orElse (faultOf n d) (faultOf m w)
-unfolding orElse
-faults-first n d m w true e = rw (← e)
-faults-first n d m w false e = rw (← e)
+-- ---- `line_list`
 
 or-none : (a : Option (ℕ × ℕ)) → orElse a none ≡ a
 unfolding orElse
@@ -131,58 +153,91 @@ unfolding orElse
 or-assoc none b c = refl
 or-assoc (some f) b c = refl
 
-module _ (j : ℕ) (l : LineList) (x : Row) (rs : List Row) where
-  from-skip : (j ≡ x .«just_page» → ⊥) → linesFrom j (linesIn l) (x ∷ rs) ≡ linesFrom j (linesIn l) rs
-  from-skip h = rw (ne-eqb j (x .«just_page») h)
-
-  from-on : (m : List Line) → j ≡ x .«just_page» → m ≡ addLine (x .line) (rowLine x) (linesIn l) → linesFrom j (linesIn l) (x ∷ rs) ≡ linesFrom j m rs
-  from-on m h e = rw (eq-eqb j (x .«just_page») h, e)
-
 module _ (j : ℕ) (x : Row) (rs : List Row) where
-  fault-skip : (j ≡ x .«just_page» → ⊥) → fontFaultFrom j (x ∷ rs) ≡ fontFaultFrom j rs
+  from-skip : (ls : List Line) → (j ≡ x .«just_page» → ⊥) → linesFrom j ls (x ∷ rs) ≡ linesFrom j ls rs
+  from-skip ls h = rw (ne-eqb j (x .«just_page») h)
+
+  from-on : (ls : List Line) → j ≡ x .«just_page» → linesFrom j ls (x ∷ rs) ≡ linesFrom j (addLine (x .line) (rowLine x) ls) rs
+  from-on ls h = rw (eq-eqb j (x .«just_page») h)
+
+  font-skip : (j ≡ x .«just_page» → ⊥) → fontFaultFrom j (x ∷ rs) ≡ fontFaultFrom j rs
   unfolding fontFaultFrom orElse
-  fault-skip h = rw (ne-eqb j (x .«just_page») h)
+  font-skip h = rw (ne-eqb j (x .«just_page») h)
 
-  fault-on : j ≡ x .«just_page» → fontFaultFrom j (x ∷ rs) ≡ orElse (faultOf (fontNumber (x .fault)) (x .detail)) (fontFaultFrom j rs)
+  font-on : j ≡ x .«just_page» → fontFaultFrom j (x ∷ rs) ≡ orElse (faultOf (fontNumber (x .fault)) (x .detail)) (fontFaultFrom j rs)
   unfolding fontFaultFrom
-  fault-on h = rw (eq-eqb j (x .«just_page») h)
+  font-on h = rw (eq-eqb j (x .«just_page») h)
 
--- the rows from i on: x is the row read
-module _ (j n i : ℕ) (rows : List ℕ) (l : LineList) (h : i < n) (x : Row) (e : x ≡ rowAt rows i) where
-  next : cells (rowAt rows) i (n - i) ≡ x ∷ cells (rowAt rows) (i + 1) (n - (i + 1))
-  next = cells-next (rowAt rows) i n h ∙ ap (λ (r : Row). r ∷ cells (rowAt rows) (i + 1) (n - (i + 1))) (sym e)
+-- the first i rows are gathered in l
+pub record Gathering (rows : List ℕ) (n just : ℕ) (l : LineList) (i : ℕ) : Type 0 where
+  pub most : n ≤ 2048
+  pub room : RowRoom n rows
+  pub few : l .count ≤ 256
+  pub full : Full l
+  pub lines : linesFrom just (linesIn l) (cells (rowAt rows) i (n - i)) ≡ linesFrom just [] (rowsOf rows n)
+  pub font : orElse (faultOf (l .fault) (l .detail)) (fontFaultFrom just (cells (rowAt rows) i (n - i))) ≡ fontFaultFrom just (rowsOf rows n)
 
-  pub lines-skip : (w : List Line) → (j ≡ x .«just_page» → ⊥) → linesFrom j (linesIn l) (cells (rowAt rows) i (n - i)) ≡ w → linesFrom j (linesIn l) (cells (rowAt rows) (i + 1) (n - (i + 1))) ≡ w
-  lines-skip w q inv = sym (from-skip j l x (cells (rowAt rows) (i + 1) (n - (i + 1))) q) ∙ ap (linesFrom j (linesIn l)) (sym next) ∙ inv
+-- no lines and no fault yet
+pub gather-start : {rows : List ℕ} {n just : ℕ} {l : LineList} → (n ≤ 2048) × RowRoom n rows → Full l → l .count ≡ 0 → l .fault ≡ 0 → Gathering rows n just l 0
+unfolding linesIn rowsOf orElse
+gather-start {n = n} h f e q =
+    record { most = h .0; room = h .1; few = omega arith; full = f; lines = rw (e, sub-zero n); font = rw (q, sub-zero n) }
 
-  pub lines-on : (w : List Line) (m : LineList) → j ≡ x .«just_page» → linesIn m ≡ addLine (x .line) (rowLine x) (linesIn l) → linesFrom j (linesIn l) (cells (rowAt rows) i (n - i)) ≡ w → linesFrom j (linesIn m) (cells (rowAt rows) (i + 1) (n - (i + 1))) ≡ w
-  lines-on w m q t inv = sym (from-on j l x (cells (rowAt rows) (i + 1) (n - (i + 1))) (linesIn m) q t) ∙ ap (linesFrom j (linesIn l)) (sym next) ∙ inv
+module _ {rows : List ℕ} {n just : ℕ} {l : LineList} {i : ℕ} (g : Gathering rows n just l i) where
+  pub gather-end : n ≤ i → LinesOf rows n just l
+  unfolding fontFaultFrom
+  gather-end h =
+      record {
+        lines = rw (cells-done (rowAt rows) i n h) at (g .lines);
+        font =
+            sym (or-none (faultOf (l .fault) (l .detail)))
+            ∙ ap (λ (rs : List Row). orElse (faultOf (l .fault) (l .detail)) (fontFaultFrom just rs)) (sym (cells-done (rowAt rows) i n h)) ∙ g .font;
+        few = g .few;
+      }
 
-  pub faults-skip : (o : Option (ℕ × ℕ)) → (j ≡ x .«just_page» → ⊥) → orElse (faultOf (l .fault) (l .detail)) (fontFaultFrom j (cells (rowAt rows) i (n - i))) ≡ o
-      → orElse (faultOf (l .fault) (l .detail)) (fontFaultFrom j (cells (rowAt rows) (i + 1) (n - (i + 1)))) ≡ o
-  faults-skip o q inv = ap (orElse (faultOf (l .fault) (l .detail))) (sym (fault-skip j x (cells (rowAt rows) (i + 1) (n - (i + 1))) q) ∙ ap (fontFaultFrom j) (sym next)) ∙ inv
+  -- x is the row read
+  module _ (h : i < n) {x : Row} (e : x ≡ rowAt rows i) where
+    rest : List Row
+    rest = cells (rowAt rows) (i + 1) (n - (i + 1))
 
-  pub faults-on : (o : Option (ℕ × ℕ)) (f d m : ℕ) (t : Bool) → j ≡ x .«just_page» → t ≡ eqb (l .fault) 0 → m ≡ fontNumber (x .fault) → f ≡ pick t m (l .fault) → d ≡ pick t (x .detail) (l .detail)
-      → orElse (faultOf (l .fault) (l .detail)) (fontFaultFrom j (cells (rowAt rows) i (n - i))) ≡ o
-      → orElse (faultOf f d) (fontFaultFrom j (cells (rowAt rows) (i + 1) (n - (i + 1)))) ≡ o
-  faults-on o f d m t q et em ef ed inv =
-      let rest : Option (ℕ × ℕ) = fontFaultFrom j (cells (rowAt rows) (i + 1) (n - (i + 1))) in
-      let a : faultOf f d ≡ orElse (faultOf (l .fault) (l .detail)) (faultOf m (x .detail)) = rw (ef, ed) (faults-first (l .fault) (l .detail) m (x .detail) t et) in
-      let b : orElse (faultOf m (x .detail)) rest ≡ fontFaultFrom j (cells (rowAt rows) i (n - i)) = rw em (sym (fault-on j x (cells (rowAt rows) (i + 1) (n - (i + 1))) q) ∙ ap (fontFaultFrom j) (sym next)) in
-      ap (λ (z : Option (ℕ × ℕ)). orElse z rest) a ∙ or-assoc (faultOf (l .fault) (l .detail)) (faultOf m (x .detail)) rest ∙ ap (orElse (faultOf (l .fault) (l .detail))) b ∙ inv
+    next : cells (rowAt rows) i (n - i) ≡ x ∷ rest
+    unfolding rest
+    next = cells-next (rowAt rows) i n h ∙ ap (λ (r : Row). r ∷ cells (rowAt rows) (i + 1) (n - (i + 1))) (sym e)
 
--- all rows, and none left
-pub lines-start : (j n : ℕ) (rows : List ℕ) (l : LineList) → l .count ≡ 0 → linesFrom j (linesIn l) (cells (rowAt rows) 0 (n - 0)) ≡ linesFrom j [] (rowsOf rows n)
-unfolding linesIn rowsOf
-lines-start j n rows l e = rw (e, sub-zero n)
+    pub gather-skip : (just ≡ x .«just_page» → ⊥) → Gathering rows n just l (i + 1)
+    unfolding rest
+    gather-skip q =
+        record {
+          most = g .most;
+          room = g .room;
+          few = g .few;
+          full = g .full;
+          lines = sym (from-skip just x rest (linesIn l) q) ∙ ap (linesFrom just (linesIn l)) (sym next) ∙ g .lines;
+          font = ap (orElse (faultOf (l .fault) (l .detail))) (sym (font-skip just x rest q) ∙ ap (fontFaultFrom just) (sym next)) ∙ g .font;
+        }
 
-pub faults-start : (j n : ℕ) (rows : List ℕ) (f d : ℕ) → f ≡ 0 → orElse (faultOf f d) (fontFaultFrom j (cells (rowAt rows) 0 (n - 0))) ≡ fontFaultFrom j (rowsOf rows n)
-unfolding rowsOf orElse
-faults-start j n rows f d e = rw (e, sub-zero n)
-
-pub lines-stop : (j n i : ℕ) (rows : List ℕ) (l : LineList) (w : List Line) → n ≤ i → linesFrom j (linesIn l) (cells (rowAt rows) i (n - i)) ≡ w → linesIn l ≡ w
-lines-stop j n i rows l w h inv = rw (cells-done (rowAt rows) i n h) at inv
-
-pub faults-stop : (j n i : ℕ) (rows : List ℕ) (a o : Option (ℕ × ℕ)) → n ≤ i → orElse a (fontFaultFrom j (cells (rowAt rows) i (n - i))) ≡ o → a ≡ o
-unfolding fontFaultFrom
-faults-stop j n i rows a o h inv = sym (or-none a) ∙ ap (λ (rs : List Row). orElse a (fontFaultFrom j rs)) (sym (cells-done (rowAt rows) i n h)) ∙ inv
+    -- s is its place, t its line, k its font's fault, and f the first fault with it
+    pub gather-on : (s : Slot) (t : TextLine) (k : ℕ) (f : Fault) → just ≡ x .«just_page» → SlotFor (x .line) (l .count) s
+        → lineIs t ≡ pick (s .old) (combine (lineAt l (s .at)) (rowLine x)) (rowLine x)
+        → k ≡ fontNumber (x .fault) → f ≡ earlierOf (record { number = l .fault; detail = l .detail }) (record { number = k; detail = x .detail })
+        → Gathering rows n just (stored l s t f) (i + 1)
+    unfolding rest
+    gather-on s t k f q slot et ek e′ =
+        let ef : faultOf (f .number) (f .detail) ≡ orElse (faultOf (l .fault) (l .detail)) (faultOf (fontNumber (x .fault)) (x .detail)) =
+        ap (λ (g : Fault). faultOf (g .number) (g .detail)) e′
+        ∙ earlier-is (record { number = l .fault; detail = l .detail }) (record { number = k; detail = x .detail })
+        ∙ ap (λ (g : ℕ). orElse (faultOf (l .fault) (l .detail)) (faultOf g (x .detail))) ek in
+        let grown : linesIn (stored l s t f) ≡ addLine (x .line) (rowLine x) (linesIn l) = lines-stored l x s t f (g .full) slot et in
+        record {
+          most = g .most;
+          room = g .room;
+          few = slot .few;
+          full = full-stored l x s t f (g .full) slot;
+          lines =
+              ap (λ (ls : List Line). linesFrom just ls rest) grown ∙ sym (from-on just x rest (linesIn l) q)
+              ∙ ap (linesFrom just (linesIn l)) (sym next) ∙ g .lines;
+          font =
+              ap (λ (o : Option (ℕ × ℕ)). orElse o (fontFaultFrom just rest)) ef
+              ∙ or-assoc (faultOf (l .fault) (l .detail)) (faultOf (fontNumber (x .fault)) (x .detail)) (fontFaultFrom just rest)
+              ∙ ap (orElse (faultOf (l .fault) (l .detail))) (sym (font-on just x rest q) ∙ ap (fontFaultFrom just) (sym next)) ∙ g .font;
+        }

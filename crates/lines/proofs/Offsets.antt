@@ -1,21 +1,25 @@
--- What stands above and below a line, summed line by line.
-use Prim.Native.Nat.{ℕ, zero, suc, _+_, _-_, _/_, _≤_, _<_}
-use mathlib.Core.Path.{_≡_, refl, _∙_, ap}
-use mathlib.Core.Bool.{Bool, true, false, not}
-use mathlib.Core.Option.{none, some}
-use mathlib.Core.List.{List, [], _∷_}
+-- What stands above and below a line: the table that is filled line by line, and what a line's number finds in it.
+use Prim.Native.Nat.{ℕ, zero, suc, _+_, _-_, _*_, _/_, _≤_, _<_}
+use mathlib.Core.Path.{_≡_, refl, sym, _∙_, ap}
+use mathlib.Core.Bool.{Bool, true, false}
+use mathlib.Core.Option.{Option, none, some}
+use mathlib.Core.List.{List, [], _∷_, _++_, append-assoc, append-nil}
 use native.Mathlib.Numerals.{add-one}
 use native.Mathlib.Nat.{sub-zero}
 use native.Mathlib.Omega.{arith}
-use lib.Dec.{leb}
-use lib.ListN.{getD}
-use borrow.Author.Tests.{leb-true, leb-false, le-leb, ne-eqb}
+use lib.Dec.{ltb}
+use lib.ListN.{length, getD, set, take, length-set}
+use lib.Seq.{take-suc-set, getD-take}
+use borrow.Author.Tests.{ltb-true, ltb-false, ne-eqb}
 use Rattle.base.specs.Pick.{pick}
 use Rattle.layout.specs.Place.{Line, lineGap, gapAbove, total, above, below}
-use Rattle.rows.specs.Rows.{cells}
-use Rattle.rows.proofs.Laws.{cells-next, cells-done}
+use Rattle.rows.specs.Rows.{cells, rowsOf}
+use Rattle.rows.specs.Measured.{faultOf}
+use Rattle.rows.proofs.Laws.{cells-next, cells-done, cells-length}
 use Rattle.lines.specs.declared.LineList.{LineList}
-use Rattle.lines.specs.Lines.{lineWith, lineAt, linesIn, lineBefore, gapOf}
+use Rattle.lines.specs.declared.PageLines.{PageLines}
+use Rattle.lines.specs.declared.Heights.{Heights}
+use Rattle.lines.specs.Lines.{lineWith, lineAt, linesIn, linesFrom, fontFaultFrom, LinesOf, lineBefore, gapOf, feetOf, PageHeights, footIn, heightsIn}
 
 -- ---- the spacing above a line
 
@@ -59,97 +63,151 @@ module _ (h s f d : ℕ) where
   total-same ch [] = refl
   total-same ch (l ∷ ls) = ap (λ (g : ℕ). g + (l .height + total ch (some l) ls)) (gap-same ch l)
 
-  above-same : (ch n : ℕ) (ls : List Line) → above ch n (some (lineWith h s f d)) ls ≡ above ch n (some (lineWith 0 s 0 0)) ls
-  above-same ch n [] = refl
-  above-same ch zero (l ∷ ls) = ap (λ (g : ℕ). g + l .height) (gap-same ch l)
-  above-same ch (suc n) (l ∷ ls) = ap (λ (g : ℕ). g + (l .height + above ch n (some l) ls)) (gap-same ch l)
+  feet-same : (ch t : ℕ) (ls : List Line) → feetOf ch (some (lineWith h s f d)) t ls ≡ feetOf ch (some (lineWith 0 s 0 0)) t ls
+  feet-same ch t [] = refl
+  feet-same ch t (l ∷ ls) = ap (λ (g : ℕ). (t + (g + l .height)) ∷ feetOf ch (some l) (t + (g + l .height)) ls) (gap-same ch l)
 
-  below-same : (ch n : ℕ) (ls : List Line) → below ch n (some (lineWith h s f d)) ls ≡ below ch n (some (lineWith 0 s 0 0)) ls
-  below-same ch n [] = refl
-  below-same ch zero (l ∷ ls) = refl
-  below-same ch (suc n) (l ∷ ls) = refl
+all-lines : (l : LineList) → length (linesIn l) ≡ l .count
+unfolding linesIn
+all-lines l = cells-length (lineAt l) 0 (l .count)
 
--- ---- the lines from number i on: what they give to the sums for line n
+-- ---- `page_lines`: the first i lines stand in the table; the last of them has font spacing p and sum above its foot
 
-abbrev pub upper : ℕ → ℕ → ℕ → ℕ → List Line → ℕ
-upper ch n i p ls = pick (leb i n) (above ch (n - i) (lineBefore i p) ls) 0
+pub record Stacking (ch : ℕ) (rows : List ℕ) (n just : ℕ) (l : LineList) (table : List ℕ) (sum p i : ℕ) : Type 0 where
+  pub gathered : LinesOf rows n just l
+  pub size : length table ≡ 256
+  pub within : i ≤ l .count
+  pub small : sum ≤ 131072 * i
+  pub feet : take i table ++ feetOf ch (lineBefore i p) sum (cells (lineAt l) i (l .count - i)) ≡ feetOf ch none 0 (linesIn l)
+  pub high : sum + total ch (lineBefore i p) (cells (lineAt l) i (l .count - i)) ≡ total ch none (linesIn l)
 
-abbrev pub lower : ℕ → ℕ → ℕ → ℕ → List Line → ℕ
-lower ch n i p ls = pick (leb i n) (below ch (n - i) (lineBefore i p) ls) (total ch (lineBefore i p) ls)
+pub stack-start : {ch : ℕ} {rows : List ℕ} {n just : ℕ} {l : LineList} {table : List ℕ} → LinesOf rows n just l → length table ≡ 256
+    → Stacking ch rows n just l table 0 0 0
+unfolding linesIn
+stack-start {l = l} g s =
+    record { gathered = g; size = s; within = omega arith; small = omega arith; feet = rw (sub-zero (l .count)); high = rw (sub-zero (l .count)) (omega arith) }
 
-module _ (ch n i p h s f d : ℕ) (ls : List Line) where
-  upper-on : upper ch n i p (lineWith h s f d ∷ ls) ≡ pick (leb i n) (gapOf ch i p s f d + h) 0 + upper ch n (suc i) s ls
-  upper-on = look (leb i n) (leb (suc i) n) refl refl
+module _ {ch : ℕ} {rows : List ℕ} {n just : ℕ} {l : LineList} {table : List ℕ} {sum p i : ℕ} (z : Stacking ch rows n just l table sum p i) where
+  -- g is the gap above line i, t what stands above its foot
+  module _ (more : i < l .count) {g : ℕ} (eg : (g ≡ gapOf ch i p (getD (l .«font_spacings») i 0) (getD (l .led) i 0) (getD (l .leads) i 0)) × (g < 65536))
+      {t : ℕ} (et : (t ≡ sum + (g + getD (l .heights) i 0)) × (t ≤ sum + 131072)) where
+    s : ℕ
+    s = getD (l .«font_spacings») i 0
+
+    rest : List Line
+    rest = cells (lineAt l) (suc i) (l .count - suc i)
+
+    next : cells (lineAt l) i (l .count - i) ≡ lineAt l i ∷ rest
+    unfolding rest
+    next = rw (add-one i) at (cells-next (lineAt l) i (l .count) more)
+
+    gap-here : gapAbove ch (lineBefore i p) (lineAt l i) ≡ g
+    gap-here = gap-is ch i p (getD (l .heights) i 0) (getD (l .«font_spacings») i 0) (getD (l .led) i 0) (getD (l .leads) i 0) ∙ sym (eg .0)
+
+    foot-here : sum + (gapAbove ch (lineBefore i p) (lineAt l i) + lineAt l i .height) ≡ t
+    foot-here = rw gap-here (sym (et .0))
+
+    feet-next : feetOf ch (lineBefore i p) sum (cells (lineAt l) i (l .count - i)) ≡ t ∷ feetOf ch (lineBefore (suc i) s) t rest
+    unfolding s
+    feet-next =
+        ap (feetOf ch (lineBefore i p) sum) next ∙ ap (λ (x : ℕ). x ∷ feetOf ch (some (lineAt l i)) x rest) foot-here
+        ∙ ap (λ (x : List ℕ). t ∷ x) (feet-same (getD (l .heights) i 0) (getD (l .«font_spacings») i 0) (getD (l .led) i 0) (getD (l .leads) i 0) ch t rest)
+
+    high-next : sum + total ch (lineBefore i p) (cells (lineAt l) i (l .count - i)) ≡ t + total ch (lineBefore (suc i) s) rest
+    unfolding s
+    high-next =
+        ap (λ (x : List Line). sum + total ch (lineBefore i p) x) next
+        ∙ omega (arith, foot-here, total-same (getD (l .heights) i 0) (getD (l .«font_spacings») i 0) (getD (l .led) i 0) (getD (l .leads) i 0) ch rest)
+
+    pub stack-on : Stacking ch rows n just l (set table i t) t (getD (l .«font_spacings») i 0) (i + 1)
+    unfolding s rest
+    stack-on =
+        let few : l .count ≤ 256 = z .gathered .few in
+        let ahead : List ℕ = feetOf ch (lineBefore (suc i) s) t rest in
+        record {
+          gathered = z .gathered;
+          size = length-set table i t ∙ z .size;
+          within = omega arith;
+          small = omega (arith, et .1, z .small);
+          feet =
+              rw (add-one i)
+              (ap (λ (x : List ℕ). x ++ ahead) (take-suc-set table i t (omega (arith, z .size)))
+              ∙ append-assoc (take i table) (t ∷ []) ahead ∙ ap (λ (x : List ℕ). take i table ++ x) (sym feet-next) ∙ z .feet);
+          high = rw (add-one i) (sym high-next ∙ z .high);
+        }
+
+  pub stack-end : l .count ≤ i → PageHeights ch rows n just table (record { just = just; count = l .count; total = sum; fault = l .fault; detail = l .detail })
+  stack-end done =
+      let e : i ≡ l .count = omega (arith, z .within) in
+      let few : l .count ≤ 256 = z .gathered .few in
+      let none-left : cells (lineAt l) i (l .count - i) ≡ [] = cells-done (lineAt l) i (l .count) done in
+      record {
+        page = refl;
+        size = z .size;
+        few = few;
+        lines = sym (all-lines l) ∙ ap length (z .gathered .lines);
+        feet =
+            ap (λ (k : ℕ). take k table) (sym e) ∙ sym (append-nil (take i table))
+            ∙ ap (λ (x : List Line). take i table ++ feetOf ch (lineBefore i p) sum x) (sym none-left) ∙ z .feet ∙ ap (feetOf ch none 0) (z .gathered .lines);
+        high =
+            (let w : sum ≡ sum + total ch (lineBefore i p) (cells (lineAt l) i (l .count - i)) = rw none-left (omega arith) in w)
+            ∙ z .high ∙ ap (total ch none) (z .gathered .lines);
+        small = omega (arith, z .small);
+        font = z .gathered .font;
+      }
+
+-- ---- `offset_vert`: what the table says of a line
+
+foot-at : (ch k : ℕ) (p : Option Line) (s : ℕ) (ls : List Line) → k < length ls → getD (feetOf ch p s ls) k 0 ≡ s + above ch k p ls
+foot-at ch k p s [] h = absurd (omega arith)
+foot-at ch zero p s (l ∷ ls) h = refl
+foot-at ch (suc k) p s (l ∷ ls) h = foot-at ch k (some l) (s + (gapAbove ch p l + l .height)) ls (omega arith) ∙ omega arith
+
+above-all : (ch k : ℕ) (p : Option Line) (ls : List Line) → length ls ≤ k → above ch k p ls ≡ total ch p ls
+above-all ch k p [] h = refl
+above-all ch zero p (l ∷ ls) h = absurd (omega arith)
+above-all ch (suc k) p (l ∷ ls) h = omega (arith, above-all ch k (some l) ls (omega arith))
+
+above-below : (ch k : ℕ) (p : Option Line) (ls : List Line) → above ch k p ls + below ch k p ls ≡ total ch p ls
+above-below ch k p [] = omega arith
+above-below ch zero p (l ∷ ls) = omega arith
+above-below ch (suc k) p (l ∷ ls) = omega (arith, above-below ch k (some l) ls)
+
+-- the heights of a line of a page justification, and its first font fault
+pub record HeightsOf (ch : ℕ) (rows : List ℕ) (n just line : ℕ) (v : Heights) : Type 0 where
+  pub over : v .above ≡ above ch line none (linesFrom just [] (rowsOf rows n))
+  pub under : v .below ≡ below ch line none (linesFrom just [] (rowsOf rows n))
+  pub font : faultOf (v .fault) (v .detail) ≡ fontFaultFrom just (rowsOf rows n)
+  pub small : v .above + v .below ≤ 33554432
+
+module _ {ch : ℕ} {rows : List ℕ} {n just : ℕ} {table : List ℕ} {p : PageLines} (h : PageHeights ch rows n just table p) where
+  ls : List Line
+  ls = linesFrom just [] (rowsOf rows n)
+
+  foot-is : (line : ℕ) → footIn p table line ≡ above ch line none ls
+  unfolding ls
+  foot-is line = look (ltb line (p .count)) refl
     where
-      look : (t u : Bool) → leb i n ≡ t → leb (suc i) n ≡ u → pick t (above ch (n - i) (lineBefore i p) (lineWith h s f d ∷ ls)) 0 ≡ pick t (gapOf ch i p s f d + h) 0 + pick u (above ch (n - suc i) (lineBefore (suc i) s) ls) 0
-      look true true a b =
-          let z : n - i ≡ suc (n - suc i) = omega (arith, leb-true (suc i) n b) in
-          rw (z, ← above-same h s f d ch (n - suc i) ls) (omega (arith, gap-is ch i p h s f d))
-      look true false a b =
-          let z : n - i ≡ 0 = omega (arith, leb-false (suc i) n b) in
-          rw z (omega (arith, gap-is ch i p h s f d))
-      look false true a b = absurd (omega (arith, leb-false i n a, leb-true (suc i) n b))
-      look false false a b = refl
+      look : (b : Bool) → ltb line (p .count) ≡ b → pick b (getD table line 0) (p .total) ≡ above ch line none (linesFrom just [] (rowsOf rows n))
+      look true q =
+          let k : line < p .count = ltb-true line (p .count) q in
+          sym (getD-take (p .count) table line 0 k) ∙ ap (λ (x : List ℕ). getD x line 0) (h .feet)
+          ∙ foot-at ch line none 0 (linesFrom just [] (rowsOf rows n)) (omega (arith, h .lines)) ∙ omega arith
+      look false q = h .high ∙ sym (above-all ch line none (linesFrom just [] (rowsOf rows n)) (omega (arith, h .lines, ltb-false line (p .count) q)))
 
-  lower-on : lower ch n i p (lineWith h s f d ∷ ls) ≡ pick (not (leb i n)) (gapOf ch i p s f d + h) 0 + lower ch n (suc i) s ls
-  lower-on = look (leb i n) (leb (suc i) n) refl refl
-    where
-      look : (t u : Bool) → leb i n ≡ t → leb (suc i) n ≡ u
-          → pick t (below ch (n - i) (lineBefore i p) (lineWith h s f d ∷ ls)) (total ch (lineBefore i p) (lineWith h s f d ∷ ls)) ≡ pick (not t) (gapOf ch i p s f d + h) 0 + pick u (below ch (n - suc i) (lineBefore (suc i) s) ls) (total ch (lineBefore (suc i) s) ls)
-      look true true a b =
-          let z : n - i ≡ suc (n - suc i) = omega (arith, leb-true (suc i) n b) in
-          rw z (omega (arith, below-same h s f d ch (n - suc i) ls))
-      look true false a b =
-          let z : n - i ≡ 0 = omega (arith, leb-false (suc i) n b) in
-          rw z (omega (arith, total-same h s f d ch ls))
-      look false true a b = absurd (omega (arith, leb-false i n a, leb-true (suc i) n b))
-      look false false a b = omega (arith, gap-is ch i p h s f d, total-same h s f d ch ls)
+  both : (line : ℕ) → footIn p table line + below ch line none ls ≡ p .total
+  unfolding ls
+  both line = omega (arith, foot-is line, above-below ch line none ls, h .high)
 
--- one line more: g is its gap, up whether it counts above
-module _ (ch n i p : ℕ) (l : LineList) (h : i < l .count) (g : ℕ) (e : g ≡ gapOf ch i p (getD (l .«font_spacings») i 0) (getD (l .led) i 0) (getD (l .leads) i 0)) (up : Bool) (q : up ≡ leb i n) where
-  rest : List Line
-  rest = cells (lineAt l) (i + 1) (l .count - (i + 1))
+  pub foot-fits : (line : ℕ) → (length table ≡ 256) × (footIn p table line ≤ p .total)
+  foot-fits line = (h .size, omega (arith, both line))
 
-  next : cells (lineAt l) i (l .count - i) ≡ lineAt l i ∷ rest
-  unfolding rest
-  next = cells-next (lineAt l) i (l .count) h
-
-  pub above-on : (a b w : ℕ) → b ≡ a + pick up (g + getD (l .heights) i 0) 0 → a + upper ch n i p (cells (lineAt l) i (l .count - i)) ≡ w
-      → b + upper ch n (i + 1) (getD (l .«font_spacings») i 0) (cells (lineAt l) (i + 1) (l .count - (i + 1))) ≡ w
-  unfolding rest
-  above-on a b w r inv =
-      let k : upper ch n i p (cells (lineAt l) i (l .count - i)) ≡ pick up (g + getD (l .heights) i 0) 0 + upper ch n (i + 1) (getD (l .«font_spacings») i 0) (cells (lineAt l) (i + 1) (l .count - (i + 1))) =
-      ap (upper ch n i p) next ∙ upper-on ch n i p (getD (l .heights) i 0) (getD (l .«font_spacings») i 0) (getD (l .led) i 0) (getD (l .leads) i 0) rest ∙ rw (e, q, add-one i) in
-      omega arith
-
-  pub below-on : (a b w : ℕ) → b ≡ a + pick (not up) (g + getD (l .heights) i 0) 0 → a + lower ch n i p (cells (lineAt l) i (l .count - i)) ≡ w
-      → b + lower ch n (i + 1) (getD (l .«font_spacings») i 0) (cells (lineAt l) (i + 1) (l .count - (i + 1))) ≡ w
-  unfolding rest
-  below-on a b w r inv =
-      let k : lower ch n i p (cells (lineAt l) i (l .count - i)) ≡ pick (not up) (g + getD (l .heights) i 0) 0 + lower ch n (i + 1) (getD (l .«font_spacings») i 0) (cells (lineAt l) (i + 1) (l .count - (i + 1))) =
-      ap (lower ch n i p) next ∙ lower-on ch n i p (getD (l .heights) i 0) (getD (l .«font_spacings») i 0) (getD (l .led) i 0) (getD (l .leads) i 0) rest ∙ rw (e, q, add-one i) in
-      omega arith
-
--- all lines, and none left
-module _ (ch n p : ℕ) (l : LineList) where
-  pub above-start : 0 + upper ch n 0 p (cells (lineAt l) 0 (l .count - 0)) ≡ above ch n none (linesIn l)
-  unfolding linesIn
-  above-start = rw (le-leb 0 n (omega arith), sub-zero n, sub-zero (l .count)) (omega arith)
-
-  pub below-start : 0 + lower ch n 0 p (cells (lineAt l) 0 (l .count - 0)) ≡ below ch n none (linesIn l)
-  unfolding linesIn
-  below-start = rw (le-leb 0 n (omega arith), sub-zero n, sub-zero (l .count)) (omega arith)
-
-  pub above-stop : (i a w : ℕ) → l .count ≤ i → a + upper ch n i p (cells (lineAt l) i (l .count - i)) ≡ w → a ≡ w
-  above-stop i a w h inv = look (leb i n) (rw (cells-done (lineAt l) i (l .count) h) at inv)
-    where
-      look : (t : Bool) → a + pick t 0 0 ≡ w → a ≡ w
-      look true e = omega arith
-      look false e = omega arith
-
-  pub below-stop : (i a w : ℕ) → l .count ≤ i → a + lower ch n i p (cells (lineAt l) i (l .count - i)) ≡ w → a ≡ w
-  below-stop i a w h inv = look (leb i n) (rw (cells-done (lineAt l) i (l .count) h) at inv)
-    where
-      look : (t : Bool) → a + pick t 0 0 ≡ w → a ≡ w
-      look true e = omega arith
-      look false e = omega arith
+  pub heights-are : (line : ℕ) {v : Heights} → v ≡ heightsIn p table line → HeightsOf ch rows n just line v
+  unfolding ls
+  heights-are line {v} e =
+      record {
+        over = ap (λ (x : Heights). x .above) e ∙ foot-is line;
+        under = ap (λ (x : Heights). x .below) e ∙ omega (arith, both line);
+        font = ap (λ (x : Heights). faultOf (x .fault) (x .detail)) e ∙ h .font;
+        small = omega (arith, h .small, both line, ap (λ (x : Heights). x .above) e, ap (λ (x : Heights). x .below) e);
+      }

@@ -37,8 +37,8 @@ use Rattle.layout.specs.Types.{given, Meter}
 use Rattle.layout.specs.Fonts.{versionFault, charsOf, widthOf, measureIn, charFaultAfter, faultIn, meterOf}
 use Rattle.rows.specs.declared.Row.{Row}
 use Rattle.rows.specs.Measured.{flag, faultNumber, faultDetail, gaugeOf, rowBy, rowOf}
+use Rattle.rows.specs.declared.Fault.{Fault}
 use Rattle.rows.specs.declared.Gauge.{Gauge}
-use Rattle.meter.specs.declared.Fault.{Fault}
 use Rattle.meter.specs.Gauges.{fontsIn, meterIn, Opened, Held, Narrow, Short, partCodes, fontAt, versionNumber, fault, faultBy, gaugeFor}
 
 -- ---- widths

@@ -24,8 +24,8 @@ use Rattle.layout.specs.declared.Entry.{Entry}
 use Rattle.layout.specs.Types.{Meter}
 use Rattle.layout.specs.Fonts.{faultIn, spacingIn, widthIn, heightIn, lineSpacingIn, meterOf}
 use Rattle.rows.specs.Measured.{faultNumber, faultDetail}
+use Rattle.rows.specs.declared.Fault.{Fault}
 use Rattle.rows.specs.declared.Gauge.{Gauge}
-use Rattle.meter.specs.declared.Fault.{Fault}
 
 -- the fonts of a sign file
 abbrev pub fontsIn : Sign → List Font

@@ -2,7 +2,7 @@
 ghost use mathlib.Core.Path.{_≡_};
 ghost use mathlib.Core.List.{_∷_, []};
 ghost use mathlib.Core.Option.{none, some};
-ghost use Prim.Native.Nat.{_+_, _≤_, _<_};
+ghost use Prim.Native.Nat.{_+_, _≤_};
 ghost use lib.ListN.{length};
 ghost use Rattle.font.specs.Character.{charactersAt};
 ghost use Rattle.font.specs.Widths.{Widths};
@@ -13,17 +13,12 @@ ghost use Rattle.meter.specs.Gauges.{Opened, Held, Narrow, partCodes, Re
 use font::FontFound;
 use layout::Entry;
 use measure::Measure;
+use rows::Fault;
 use rows::Gauge;
 use rows::Row;
 use sign::FontEntry;
 use sign::SignFile;
 use value::OptNum;
-
-// A refusal's number and detail, or zeros.
-pub struct Fault {
-    pub number: u16,
-    pub detail: u16,
-}
 
 fn flag(o: OptNum) -> u16
     ensures { λ r. ⌜ r ≡ flagOf o ⌝ }
@@ -83,7 +78,7 @@ fn span_width(
 }
 
 // 11 where the version ids differ, else 0.
-fn version_number(version: OptNum, id: u16) -> u16
+fn version_number(version: OptNum, id: u16) -> u8
     ensures { λ r. ⌜ r ≡ versionNumber version id ⌝ }
 {
     match version {
@@ -107,7 +102,7 @@ fn width_of(m: Measure) -> u32
 }
 
 // 11, or 12 with its code where a character is missing.
-fn fault_by(version: u16, m: Measure) -> Fault
+fn fault_by(version: u8, m: Measure) -> Fault
     requires { ⌜ Short m ⌝ }
     ensures { λ r. ⌜ r ≡ faultBy version m ⌝ }
 {
@@ -194,7 +189,7 @@ fn gauge_of(file: &[u8], table: SignFile, widths: &[u16], msg: &[u8], e: Entry) 
 
 // The row of a span with its gauge.
 fn row_by(e: Entry, g: Gauge) -> Row
-    ensures { λ r. ⌜ (r ≡ rowBy e g) × (r .line < 256) ⌝ }
+    ensures { λ r. ⌜ r ≡ rowBy e g ⌝ }
 {
     let st = e.state;
     let char_spacing = st.char_spacing;
@@ -207,7 +202,7 @@ fn row_by(e: Entry, g: Gauge) -> Row
         just_page: base::wide16(st.just_page),
         just_line: base::wide16(st.just_line),
         font: base::wide16(st.font),
-        line: base::wide16(st.line),
+        line: st.line,
         span: base::wide16(st.span),
         fixed: flag(char_spacing),
         spacing: g.spacing,
@@ -225,7 +220,7 @@ fn row_by(e: Entry, g: Gauge) -> Row
 pub fn row_of(file: &[u8], table: SignFile, widths: &[u16; 256], msg: &[u8], e: Entry) -> Row
     requires { ⌜ Opened (now file) table × Readable (now msg) e ⌝ }
     requires { ⌜ Held (now file) table (e .state .font) (now widths) ⌝ }
-    ensures { λ r. ⌜ (r ≡ rowOf (meterIn (now (file .entry)) (now (msg .entry))) e) × (r .line < 256) ⌝ }
+    ensures { λ r. ⌜ r ≡ rowOf (meterIn (now (file .entry)) (now (msg .entry))) e ⌝ }
 {
     let g = gauge_of(file, table, widths, msg, e);
     row_by(e, g)

@@ -24,7 +24,7 @@ use Rattle.rows.specs.Rows.{rowsOf, spansOf}
 use Rattle.place.specs.Placed.{rowsFault, rowsRecords, Placeable, PassPlaced}
 use Rattle.place.proofs.Bridge.{pass-fault, pass-records}
 use Rattle.meter.specs.Gauges.{Opened, meterIn}
-use Rattle.meter.proofs.Proper.{meter-proper, rows-small}
+use Rattle.meter.proofs.Tells.{meter-told}
 use Rattle.pass.specs.declared.PassDone.{PassDone}
 use Rattle.pass.specs.declared.PassEnd.{PassEnd}
 use Rattle.pass.specs.declared.PassEnd.the-variants.{Refused as RefusedPass, Ended as EndedPass}
@@ -69,7 +69,6 @@ module _ {file : List ℕ} {table : SignFile} {msg : List ℕ} {from : ℕ} {st 
           room = omega arith;
           across = omega (arith, a .good .config .width-most);
           down = omega (arith, a .good .config .height-most);
-          faults = λ j h. rows-small file msg rows (d .count) es (p .spans) j h;
         }
 
     pub render-fits : Val.Fits w64 (at + d .count)
@@ -80,10 +79,10 @@ module _ {file : List ℕ} {table : SignFile} {msg : List ℕ} {from : ℕ} {st 
     -- and placed: o is the answer
     module _ {out′ : List ℕ} {o : OptRefusal} (p : PassPlaced (table .config) (d .rect) rows (d .count) out at out′ o) where
       fault-is : rowsFault c (d .rect) (rowsOf rows (d .count)) ≡ passFault s (d .rect) es
-      fault-is = ap (rowsFault c (d .rect)) (spans .spans) ∙ pass-fault (meterIn file msg) (meter-proper file msg) c (d .rect) es
+      fault-is = ap (rowsFault c (d .rect)) (spans .spans) ∙ pass-fault (meterIn file msg) (meter-told file msg) c (d .rect) es
 
       records-are : rowsRecords c (d .rect) (rowsOf rows (d .count)) ≡ passRecords s (d .rect) es
-      records-are = ap (rowsRecords c (d .rect)) (spans .spans) ∙ pass-records (meterIn file msg) (meter-proper file msg) c (d .rect) es
+      records-are = ap (rowsRecords c (d .rect)) (spans .spans) ∙ pass-records (meterIn file msg) (meter-told file msg) c (d .rect) es
 
       ends-by : {y : Option Refusal} → faultIs o ≡ y → stopBy y (told msg (EndedPass d)) ≡ placedEnding s es end
       ends-by e =

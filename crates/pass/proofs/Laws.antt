@@ -33,7 +33,7 @@ use Rattle.layout.proofs.Items.{item-within}
 use Rattle.page.specs.Scan.{itemsFrom}
 use Rattle.render.specs.Steps.{itemAt as placed}
 use Rattle.rows.specs.declared.Row.{Row}
-use Rattle.rows.specs.Rows.{rowsOf, putRow}
+use Rattle.rows.specs.Rows.{rowsOf, putRow, ByteFields, RowPut}
 use Rattle.rows.specs.Measured.{rowOf}
 use Rattle.rows.proofs.Laws.{rows-put}
 use Rattle.sign.specs.declared.SignFile.{SignFile}
@@ -261,7 +261,7 @@ module _ {file : List ℕ} {table : SignFile} {msg : List ℕ} {from : ℕ} {fir
             ending = ends-so q;
             entries =
                 ap (λ (y : List ℕ). rowsOf y (n + 1) ++ later) (w .row)
-                ∙ ap (λ (y : List Row). y ++ later) (rows-put rows n (f x) (omega (arith, pass-stores .room)) (w .line))
+                ∙ ap (λ (y : List Row). y ++ later) (rows-put rows n (f x) (pass-stores .room) (w .bytes))
                 ∙ append-assoc (rowsOf rows n) (f x ∷ []) later
                 ∙ spans-so q;
             kept = λ y. rw (w .font) (w .kept);
@@ -302,11 +302,11 @@ module _ {file : List ℕ} {table : SignFile} {msg : List ℕ} {from : ℕ} {fir
 -- ---- a span's row
 
 pub stored-by : {file : List ℕ} {table : SignFile} {msg : List ℕ} {e : Entry} {rows : List ℕ} {n : ℕ} {widths′ rows′ : List ℕ} {held′ : ℕ} {row : Row}
-    → row ≡ rowOf (meterIn file msg) e → row .line < 256 → rows′ ≡ putRow rows n row → length rows′ ≡ length rows
+    → row ≡ rowOf (meterIn file msg) e → RowPut rows n row rows′
     → held′ ≡ e .state .font → Held file table (e .state .font) widths′
     → Stored file table msg e rows n widths′ rows′ held′
-stored-by {rows = rows} {n = n} p k d l q w =
-    record { row = d ∙ ap (putRow rows n) p; line = subst (λ (y : Row). y .line < 256) p k; font = q; kept = w; room = l }
+stored-by {rows = rows} {n = n} p d q w =
+    record { row = d .put ∙ ap (putRow rows n) p; bytes = subst ByteFields p (d .bytes); font = q; kept = w; room = d .room }
 
 -- ---- the widths of a font
 

@@ -16,7 +16,7 @@ use Rattle.layout.specs.declared.Step.the-variants.{Refuse, Go, Emit, Cut, Turn
 use Rattle.layout.specs.Types.{Item, itemAt}
 use Rattle.layout.specs.Read.{step, Scan, scan, Event, pass, close, stop, stopIf, newPage, read}
 use Rattle.page.specs.Scan.{itemsFrom}
-use Rattle.rows.specs.Rows.{RowRoom, rowsOf, putRow}
+use Rattle.rows.specs.Rows.{RowRoom, rowsOf, putRow, ByteFields}
 use Rattle.rows.specs.Measured.{rowOf}
 use Rattle.meter.specs.Gauges.{Opened, Held, Readable, meterIn}
 use Rattle.pass.specs.declared.How.{How}
@@ -109,7 +109,7 @@ pub record Storable (file : List ℕ) (table : SignFile) (msg : List ℕ) (e : E
 -- it was: the widths are those of its font
 pub record Stored (file : List ℕ) (table : SignFile) (msg : List ℕ) (e : Entry) (rows : List ℕ) (n : ℕ) (widths′ rows′ : List ℕ) (held′ : ℕ) : Type 0 where
   pub row : rows′ ≡ putRow rows n (rowOf (meterIn file msg) e)
-  pub line : rowOf (meterIn file msg) e .line < 256
+  pub bytes : ByteFields (rowOf (meterIn file msg) e)
   pub font : held′ ≡ e .state .font
   pub kept : Held file table (e .state .font) widths′
   pub room : length rows′ ≡ length rows

@@ -17,17 +17,19 @@ use Rattle.refusal.specs.Refusals.{refusal}
 use Rattle.layout.specs.Place as place
 use Rattle.layout.specs.Place.{orElse, unless, firstFault, select, same, samePage, beforeOf, afterOf, linesOf, aboveOf, belowOf, xOf, baseOf, recordOf, spanFault, goesBack, backFault, passFault, passRecords}
 use Rattle.rows.specs.declared.Row.{Row}
-use Rattle.rows.specs.Measured.{rowOf, faultOf, Proper}
+use Rattle.rows.specs.Measured.{rowOf, faultOf, RowTells}
+use Rattle.across.specs.declared.Sums.{Sums}
 use Rattle.across.specs.Sums.{sums, noneYet}
 use Rattle.across.proofs.Laws.{across-before, across-after, across-fault}
 use Rattle.lines.specs.Lines.{fontFaultFrom}
 use Rattle.lines.proofs.Laws.{lines-measured, faults-measured}
-use Rattle.place.specs.Placed.{goesBackFrom, backRows, faultAt, aboveWith, belowWith, baseWith, recordWith, faultWith, recordAt, spanFaultAt, rowsFault, rowsRecords}
+use Rattle.place.specs.Placed.{goesBackFrom, backRows, faultAt, baseWith, recordWith, faultWith, aboveAt, belowAt, recordAt, spanFaultAt, rowsFault, rowsRecords}
 
 -- ---- lists
 
 module _ (m : Meter) where
-  first-map : (f : Row → Option Refusal) (g : Entry → Option Refusal) → ((e : Entry) → f (rowOf m e) ≡ g e) → (es : List Entry) → firstFault f (map (rowOf m) es) ≡ firstFault g es
+  first-map : (f : Row → Option Refusal) (g : Entry → Option Refusal) → ((e : Entry) → f (rowOf m e) ≡ g e) → (es : List Entry)
+      → firstFault f (map (rowOf m) es) ≡ firstFault g es
   first-map f g h [] = refl
   first-map f g h (e ∷ es) = ap (λ (a : Option Refusal). orElse a (firstFault f (map (rowOf m) es))) (h e) ∙ ap (orElse (g e)) (first-map f g h es)
 
@@ -37,7 +39,8 @@ module _ (m : Meter) where
 
   -- ---- 9
 
-  back-from : (x : Entry) (es : List Entry) → backRows (x .state .«just_page») (x .state .line) (x .state .«just_line») (map (rowOf m) es) ≡ backFault (some x) es
+  back-from : (x : Entry) (es : List Entry) → backRows (x .state .«just_page») (x .state .line) (x .state .«just_line») (map (rowOf m) es)
+      ≡ backFault (some x) es
   back-from x [] = refl
   back-from x (e ∷ es) = ap (orElse (unless (not (goesBack x e)) (refusal 9 (e .start) (e .len) 0))) (back-from e es)
 
@@ -56,33 +59,37 @@ module _ (m : Meter) where
 
   back-same : (es : List Entry) → backRows 0 0 0 (map (rowOf m) es) ≡ backFault none es
   back-same [] = refl
-  back-same (e ∷ es) = goes (goesBackFrom 0 0 0 (rowOf m e)) (refusal 9 (e .start) (e .len) 0) (backRows (e .state .«just_page») (e .state .line) (e .state .«just_line») (map (rowOf m) es)) (from-zero (rowOf m e)) ∙ back-from e es
+  back-same (e ∷ es) = goes (goesBackFrom 0 0 0 (rowOf m e)) (refusal 9 (e .start) (e .len) 0) _ (from-zero (rowOf m e)) ∙ back-from e es
 
 -- ---- a span
 
-chain : (a b c d e a' b' c' d' e' : Option Refusal) → a ≡ a' → b ≡ b' → c ≡ c' → d ≡ d' → e ≡ e' → orElse a (orElse b (orElse c (orElse d e))) ≡ orElse a' (orElse b' (orElse c' (orElse d' e')))
+chain : (a b c d e a' b' c' d' e' : Option Refusal) → a ≡ a' → b ≡ b' → c ≡ c' → d ≡ d' → e ≡ e'
+    → orElse a (orElse b (orElse c (orElse d e))) ≡ orElse a' (orElse b' (orElse c' (orElse d' e')))
 chain a b c d e a' b' c' d' e' h i j k l = rw (h, i, j, k, l)
 
-module _ (m : Meter) (p : Proper m) (c : Config) (q : Rect) (es : List Entry) where
+module _ (m : Meter) (p : RowTells m) (c : Config) (q : Rect) (es : List Entry) where
   abbrev board : Board
   board = record { config = c; meter = m }
 
   record-same : (e : Entry) → recordAt c q (map (rowOf m) es) (rowOf m e) ≡ recordOf board q es e
-  unfolding recordAt recordWith baseWith aboveWith belowWith recordOf xOf baseOf beforeOf afterOf linesOf aboveOf belowOf
+  unfolding recordAt recordWith baseWith aboveAt belowAt recordOf xOf baseOf beforeOf afterOf linesOf aboveOf belowOf
   record-same e = rw (across-before m p es e, across-after m p es e, lines-measured m p es e)
 
   fault-at : (e : Entry) (f : Option (ℕ × ℕ)) → faultAt (rowOf m e) f ≡ place.faultAt board q es e f
   fault-at e none = refl
   fault-at e (some f) = refl
 
-  group-part : (e : Entry) → faultAt (rowOf m e) (faultOf (sums (rowOf m e) noneYet (map (rowOf m) es) .fault) (sums (rowOf m e) noneYet (map (rowOf m) es) .detail)) ≡ place.faultAt board q es e (firstFault (m .fault) (select (same e) es))
+  group-part : (e : Entry)
+      → (let o : Sums = sums (rowOf m e) noneYet (map (rowOf m) es) in
+      faultAt (rowOf m e) (faultOf (o .fault) (o .detail)) ≡ place.faultAt board q es e (firstFault (m .fault) (select (same e) es)))
   group-part e = ap (faultAt (rowOf m e)) (across-fault m p es e) ∙ fault-at e (firstFault (m .fault) (select (same e) es))
 
-  font-part : (e : Entry) → faultAt (rowOf m e) (fontFaultFrom (e .state .«just_page») (map (rowOf m) es)) ≡ place.faultAt board q es e (firstFault (m .fontFault) (select (samePage e) es))
+  font-part : (e : Entry) → faultAt (rowOf m e) (fontFaultFrom (e .state .«just_page») (map (rowOf m) es))
+      ≡ place.faultAt board q es e (firstFault (m .fontFault) (select (samePage e) es))
   font-part e = ap (faultAt (rowOf m e)) (faults-measured m p es e) ∙ fault-at e (firstFault (m .fontFault) (select (samePage e) es))
 
   fault-same : (e : Entry) → spanFaultAt c q (map (rowOf m) es) (rowOf m e) ≡ spanFault board q es e
-  unfolding spanFaultAt faultWith baseWith aboveWith belowWith spanFault baseOf beforeOf afterOf linesOf aboveOf belowOf
+  unfolding spanFaultAt faultWith baseWith aboveAt belowAt spanFault baseOf beforeOf afterOf linesOf aboveOf belowOf
   fault-same e =
       chain _ _ _ _ _ _ _ _ _ _
       (group-part e)

@@ -1,6 +1,6 @@
 -- What the code of a pass answers, way by way.
 use Prim.Native.Nat.{ℕ, zero, suc, _+_, _-_, _*_, _/_, _≤_, _<_}
-use mathlib.Core.Path.{_≡_, refl, sym, _∙_, ap}
+use mathlib.Core.Path.{_≡_, refl, sym, _∙_, ap, subst}
 use mathlib.Core.Bool.{Bool, true, false, not}
 use mathlib.Core.Option.{Option, none, some}
 use mathlib.Core.List.{List, [], _∷_, _++_, map, append-assoc, append-nil}
@@ -8,7 +8,7 @@ use native.Mathlib.Nat.{sub-zero, div-mul-le-self}
 use native.Mathlib.Omega.{arith}
 use lib.Dec.{leb, ltb, eqb}
 use lib.ListN.{length}
-use borrow.Author.Tests.{lt-ltb, le-ltb, le-leb, lt-leb, eq-eqb, ne-eqb, eqb-true}
+use borrow.Author.Tests.{lt-ltb, le-ltb, le-leb, lt-leb, eq-eqb, ne-eqb}
 use Rattle.base.specs.Pick.{pick}
 use Rattle.refusal.specs.declared.Refusal.{Refusal}
 use Rattle.records.specs.declared.Config.{Config}
@@ -16,21 +16,23 @@ use Rattle.layout.specs.declared.Rect.{Rect}
 use Rattle.layout.specs.declared.Span.{Span}
 use Rattle.refusal.specs.Refusals.{refusal}
 use Rattle.layout.specs.Read.{unit}
-use Rattle.layout.specs.Place.{Line, trunc, orElse, unless, firstFault, placeX, above, below}
+use Rattle.layout.specs.Place.{trunc, orElse, unless, firstFault, placeX}
 use Rattle.refusal.specs.declared.OptRefusal.{OptRefusal}
 use Rattle.refusal.specs.declared.OptRefusal.the-variants.{Some, None}
 use Rattle.page.specs.Scan.{faultIs}
 use Rattle.rows.specs.declared.Row.{Row}
-use Rattle.rows.specs.Rows.{cells, rowAt, rowsOf, spansOf, putSpan}
-use Rattle.rows.specs.Measured.{faultNumber, faultOf}
+use Rattle.rows.specs.Rows.{cells, RowRoom, SpanRoom, rowAt, rowsOf, spansOf, putSpan, SpanPut}
+use Rattle.rows.specs.Measured.{faultOf}
 use Rattle.rows.proofs.Laws.{cells-next, cells-done, spans-put}
 use Rattle.across.specs.declared.Sums.{Sums}
-use Rattle.across.specs.Sums.{sameRow, joined, advanced, sums, noneYet}
-use Rattle.lines.specs.declared.LineList.{LineList}
-use Rattle.lines.specs.Lines.{linesIn, linesFrom, rowFault, fontFaultFrom}
+use Rattle.across.specs.Sums.{sameRow, joined, advanced, sums, noneYet, SumsOf}
+use Rattle.lines.specs.declared.PageLines.{PageLines}
+use Rattle.lines.specs.declared.Heights.{Heights}
+use Rattle.lines.specs.Lines.{fontFaultFrom, PageHeights, footIn, heightsIn}
+use Rattle.lines.proofs.Offsets.{HeightsOf, foot-fits, heights-are}
 use Rattle.place.specs.declared.Placed.{Placed}
 use Rattle.place.specs.declared.Placed.the-variants.{At, Refused}
-use Rattle.place.specs.Placed.{smallFaults, goesBackFrom, backRows, standsAt, recordBy, refusalOf, faultAt, aboveWith, belowWith, baseWith, recordWith, faultWith, placedBy, recordAt, spanFaultAt, rowsFault, rowsRecords}
+use Rattle.place.specs.Placed.{goesBackFrom, backRows, standsAt, recordBy, refusalOf, faultAt, baseWith, recordWith, faultWith, placedBy, placedWith, SpanAsked, aboveAt, belowAt, recordAt, spanFaultAt, rowsFault, rowsRecords, Placeable, LinesMade, RowByRow, PassPlaced}
 
 -- ---- `goes_back`
 
@@ -49,49 +51,66 @@ module _ (j l k : ℕ) (e : Row) where
 
 pub ruleset back-ways = (page-back, page-on, line-on, line-back)
 
--- ---- `check_justification`
+-- ---- `check_justification`: the rows from i on, after a row with page justification j, line l and line justification k
 
-module _ (rows : List ℕ) (n j l k i : ℕ) (w : Option Refusal) (inv : backRows j l k (cells (rowAt rows) i (n - i)) ≡ w) where
-  pub back-end : n ≤ i → none ≡ w
-  back-end h = rw (cells-done (rowAt rows) i n h) at inv
+pub record Checking (rows : List ℕ) (n j l k i : ℕ) : Type 0 where
+  pub few : n ≤ 2048
+  pub rowed : RowRoom n rows
+  pub rest : backRows j l k (cells (rowAt rows) i (n - i)) ≡ backRows 0 0 0 (rowsOf rows n)
+
+pub check-start : {rows : List ℕ} {n : ℕ} → (n ≤ 2048) × RowRoom n rows → Checking rows n 0 0 0 0
+unfolding rowsOf
+check-start {n = n} h = record { few = h .0; rowed = h .1; rest = rw (sub-zero n) }
+
+module _ {rows : List ℕ} {n j l k i : ℕ} (z : Checking rows n j l k i) where
+  pub check-end : n ≤ i → none ≡ backRows 0 0 0 (rowsOf rows n)
+  check-end h = rw (cells-done (rowAt rows) i n h) at (z .rest)
 
   -- e is the row read, b what `goes_back` answered
-  module _ (h : i < n) (e : Row) (q : e ≡ rowAt rows i) (b : Bool) (f : b ≡ goesBackFrom j l k e) where
-    next : backRows j l k (e ∷ cells (rowAt rows) (i + 1) (n - (i + 1))) ≡ w
-    next = ap (λ (r : Row). backRows j l k (r ∷ cells (rowAt rows) (i + 1) (n - (i + 1)))) q ∙ ap (backRows j l k) (sym (cells-next (rowAt rows) i n h)) ∙ inv
+  module _ (h : i < n) {e : Row} (q : e ≡ rowAt rows i) {b : Bool} (f : b ≡ goesBackFrom j l k e) where
+    rest : List Row
+    rest = cells (rowAt rows) (i + 1) (n - (i + 1))
 
-    stops : (t : Bool) → t ≡ true → orElse (unless (not t) (refusal 9 (e .start) (e .len) 0)) (backRows (e .«just_page») (e .line) (e .«just_line») (cells (rowAt rows) (i + 1) (n - (i + 1)))) ≡ some (refusal 9 (e .start) (e .len) 0)
+    next : backRows j l k (e ∷ rest) ≡ backRows 0 0 0 (rowsOf rows n)
+    unfolding rest
+    next = ap (λ (r : Row). backRows j l k (r ∷ rest)) q ∙ ap (backRows j l k) (sym (cells-next (rowAt rows) i n h)) ∙ z .rest
+
+    stops : (t : Bool) (o : Option Refusal) → t ≡ true → orElse (unless (not t) (refusal 9 (e .start) (e .len) 0)) o ≡ some (refusal 9 (e .start) (e .len) 0)
     unfolding orElse unless
-    stops t p = rw p
+    stops t o p = rw p
 
-    goes : (t : Bool) → t ≡ false → orElse (unless (not t) (refusal 9 (e .start) (e .len) 0)) (backRows (e .«just_page») (e .line) (e .«just_line») (cells (rowAt rows) (i + 1) (n - (i + 1)))) ≡ backRows (e .«just_page») (e .line) (e .«just_line») (cells (rowAt rows) (i + 1) (n - (i + 1)))
+    goes : (t : Bool) (o : Option Refusal) → t ≡ false → orElse (unless (not t) (refusal 9 (e .start) (e .len) 0)) o ≡ o
     unfolding orElse unless
-    goes t p = rw p
+    goes t o p = rw p
 
-    pub back-stop : b ≡ true → some (refusal 9 (e .start) (e .len) 0) ≡ w
-    back-stop p = sym (stops (goesBackFrom j l k e) (sym f ∙ p)) ∙ next
+    pub check-stop : b ≡ true → some (refusal 9 (e .start) (e .len) 0) ≡ backRows 0 0 0 (rowsOf rows n)
+    check-stop p = sym (stops (goesBackFrom j l k e) (backRows (e .«just_page») (e .line) (e .«just_line») rest) (sym f ∙ p)) ∙ next
 
-    pub back-on : b ≡ false → backRows (e .«just_page») (e .line) (e .«just_line») (cells (rowAt rows) (i + 1) (n - (i + 1))) ≡ w
-    back-on p = sym (goes (goesBackFrom j l k e) (sym f ∙ p)) ∙ next
-
-pub back-start : (rows : List ℕ) (n : ℕ) → backRows 0 0 0 (cells (rowAt rows) 0 (n - 0)) ≡ backRows 0 0 0 (rowsOf rows n)
-unfolding rowsOf
-back-start rows n = rw (sub-zero n)
+    pub check-on : b ≡ false → Checking rows n (e .«just_page») (e .line) (e .«just_line») (i + 1)
+    unfolding rest
+    check-on p =
+        record {
+          few = z .few;
+          rowed = z .rowed;
+          rest = sym (goes (goesBackFrom j l k e) (backRows (e .«just_page») (e .line) (e .«just_line») rest) (sym f ∙ p)) ∙ next;
+        }
 
 -- ---- `trunc`, `stand`
 
-pub trunc-is : (n x k : ℕ) → k ≡ unit n → (x / k * k ≡ trunc n x) × (x / k * k ≤ x)
-trunc-is n x k e = (ap (λ (u : ℕ). x / u * u) e, div-mul-le-self x k)
+pub trunc-is : (n x k : ℕ) → k ≡ unit n → x / k * k ≡ trunc n x
+trunc-is n x k e = ap (λ (u : ℕ). x / u * u) e
 
-module _ (j u from size a b : ℕ) (h : a + b ≤ size) (k : from + size ≤ 4096) where
-  pub stand-start : j ≡ 2 → (from + a ≡ standsAt j u from size a b) × (from + a ≤ 4096)
-  stand-start e = (rw (eq-eqb j 2 e), omega arith)
+module _ (j u from size a b : ℕ) where
+  pub stand-start : j ≡ 2 → from + a ≡ standsAt j u from size a b
+  stand-start e = rw (eq-eqb j 2 e)
 
-  pub stand-middle : (j ≡ 2 → ⊥) → j ≡ 3 → (r : ℕ) → r ≡ trunc u (from + (size - a - b) / 2 + a) → r ≤ from + (size - a - b) / 2 + a → (r ≡ standsAt j u from size a b) × (r ≤ 4096)
-  stand-middle n e r d m = (rw (ne-eqb j 2 n, eq-eqb j 3 e) d, omega arith)
+  pub stand-middle : (j ≡ 2 → ⊥) → j ≡ 3 → {r : ℕ} → r ≡ trunc u (from + (size - a - b) / 2 + a) → r ≡ standsAt j u from size a b
+  stand-middle n e d = rw (ne-eqb j 2 n, eq-eqb j 3 e) d
 
-  pub stand-end : (j ≡ 2 → ⊥) → (j ≡ 3 → ⊥) → (from + size - b ≡ standsAt j u from size a b) × (from + size - b ≤ 4096)
-  stand-end n m = (rw (ne-eqb j 2 n, ne-eqb j 3 m), omega arith)
+  pub stand-end : (j ≡ 2 → ⊥) → (j ≡ 3 → ⊥) → from + size - b ≡ standsAt j u from size a b
+  stand-end n m = rw (ne-eqb j 2 n, ne-eqb j 3 m)
+
+pub ruleset stand-ways = (stand-start, stand-middle, stand-end)
 
 -- ---- `place_span`
 
@@ -120,7 +139,8 @@ module _ (a b c d e : Option Refusal) (s : Span) (f : Refusal) where
   unfolding answer orElse
   way5 h i j k l = rw (h, i, j, k, l)
 
-way6 : (a b c d e : Option Refusal) (s : Span) → a ≡ none → b ≡ none → c ≡ none → d ≡ none → e ≡ none → At s ≡ placedBy (orElse a (orElse b (orElse c (orElse d e)))) s
+way6 : (a b c d e : Option Refusal) (s : Span) → a ≡ none → b ≡ none → c ≡ none → d ≡ none → e ≡ none
+    → At s ≡ placedBy (orElse a (orElse b (orElse c (orElse d e)))) s
 unfolding orElse
 way6 a b c d e s h i j k l = rw (h, i, j, k, l)
 
@@ -138,113 +158,66 @@ exceeds : (x y : ℕ) (f : Refusal) → y < x → unless (leb x y) f ≡ some f
 unfolding unless
 exceeds x y f h = rw (lt-leb x y h)
 
--- n and d are the number and the detail of the font fault of the lines ls
-module _ (c : Config) (q : Rect) (r : Row) (o : Sums) (ls : List Line) (n d : ℕ) (p : Placed) where
-  pub group-faulty : (o .fault ≡ 0 → ⊥) → p ≡ Refused (refusalOf r (o .fault) (o .detail)) → p ≡ placedBy (faultWith c q r o ls (faultOf n d)) (recordWith c q r o ls)
-  unfolding faultWith answer
+-- v are the heights of the row's line
+module _ (c : Config) (q : Rect) (r : Row) (o : Sums) (v : Heights) (p : Placed) where
+  pub group-faulty : (o .fault ≡ 0 → ⊥) → p ≡ Refused (refusalOf r (o .fault) (o .detail)) → p ≡ placedWith c q r o v
+  unfolding placedWith faultWith answer
   group-faulty h e = e ∙ way1 _ _ _ _ _ _ _ (fault-some r (o .fault) (o .detail) h)
 
   module _ (g : o .fault ≡ 0) where
-    pub too-wide : q .width < o .before + o .after → p ≡ Refused (refusalOf r 13 0) → p ≡ placedBy (faultWith c q r o ls (faultOf n d)) (recordWith c q r o ls)
-    unfolding faultWith answer
+    pub too-wide : q .width < o .before + o .after → p ≡ Refused (refusalOf r 13 0) → p ≡ placedWith c q r o v
+    unfolding placedWith faultWith answer
     too-wide h e = e ∙ way2 _ _ _ _ _ _ _ (fault-none r (o .fault) (o .detail) g) (exceeds (o .before + o .after) (q .width) (refusalOf r 13 0) h)
 
     module _ (w : o .before + o .after ≤ q .width) where
-      pub font-faulty : (n ≡ 0 → ⊥) → p ≡ Refused (refusalOf r n d) → p ≡ placedBy (faultWith c q r o ls (faultOf n d)) (recordWith c q r o ls)
-      unfolding faultWith answer
-      font-faulty h e = e ∙ way3 _ _ _ _ _ _ _ (fault-none r (o .fault) (o .detail) g) (fits (o .before + o .after) (q .width) (refusalOf r 13 0) w) (fault-some r n d h)
+      a-none : faultAt r (faultOf (o .fault) (o .detail)) ≡ none
+      a-none = fault-none r (o .fault) (o .detail) g
 
-      module _ (z : n ≡ 0) (a b : ℕ) (ea : a ≡ above (c .«char_height») (r .line) none ls) (eb : b ≡ below (c .«char_height») (r .line) none ls) where
-        pub too-high : q .height < a + b → p ≡ Refused (refusalOf r 13 0) → p ≡ placedBy (faultWith c q r o ls (faultOf n d)) (recordWith c q r o ls)
-        unfolding faultWith answer aboveWith belowWith
-        too-high h e =
-            e ∙ way4 _ _ _ _ _ _ _ (fault-none r (o .fault) (o .detail) g) (fits (o .before + o .after) (q .width) (refusalOf r 13 0) w) (fault-none r n d z)
-            (exceeds (above (c .«char_height») (r .line) none ls + below (c .«char_height») (r .line) none ls) (q .height) (refusalOf r 13 0) (omega arith))
+      b-none : unless (leb (o .before + o .after) (q .width)) (refusalOf r 13 0) ≡ none
+      b-none = fits (o .before + o .after) (q .width) (refusalOf r 13 0) w
 
-        module _ (y : a + b ≤ q .height) (t : ℕ) (et : t ≡ standsAt (r .«just_page») (c .«char_height») (q .top) (q .height) a b) where
-          base-is : t ≡ baseWith c q r o ls
-          unfolding baseWith aboveWith belowWith
-          base-is = et ∙ rw (ea, eb)
+      pub font-faulty : (v .fault ≡ 0 → ⊥) → p ≡ Refused (refusalOf r (v .fault) (v .detail)) → p ≡ placedWith c q r o v
+      unfolding placedWith faultWith answer
+      font-faulty h e = e ∙ way3 _ _ _ _ _ _ _ a-none b-none (fault-some r (v .fault) (v .detail) h)
 
-          pub too-low : t < r .height → p ≡ Refused (refusalOf r 14 0) → p ≡ placedBy (faultWith c q r o ls (faultOf n d)) (recordWith c q r o ls)
-          unfolding faultWith answer aboveWith belowWith
-          too-low h e =
-              e ∙ way5 _ _ _ _ _ _ _ (fault-none r (o .fault) (o .detail) g) (fits (o .before + o .after) (q .width) (refusalOf r 13 0) w) (fault-none r n d z)
-              (fits (above (c .«char_height») (r .line) none ls + below (c .«char_height») (r .line) none ls) (q .height) (refusalOf r 13 0) (omega arith))
-              (exceeds (r .height) (baseWith c q r o ls) (refusalOf r 14 0) (omega (arith, base-is)))
+      module _ (z : v .fault ≡ 0) where
+        c-none : faultAt r (faultOf (v .fault) (v .detail)) ≡ none
+        c-none = fault-none r (v .fault) (v .detail) z
 
-          pub placed : r .height ≤ t → (x : ℕ) → x ≡ standsAt (r .«just_line») (c .«char_width») (q .left) (q .width) (o .before) (o .after) → (s : Span) → s ≡ recordBy q r x (t - r .height) → p ≡ At s
-              → p ≡ placedBy (faultWith c q r o ls (faultOf n d)) (recordWith c q r o ls)
-          unfolding faultWith recordWith answer aboveWith belowWith
-          placed h x ex s es e =
-              let k : s ≡ recordBy q r (placeX (r .«just_line») (c .«char_width») q (o .before) (o .after)) (baseWith c q r o ls - r .height) = es ∙ ap (λ (v : ℕ). recordBy q r v (t - r .height)) ex ∙ ap (λ (v : ℕ). recordBy q r (placeX (r .«just_line») (c .«char_width») q (o .before) (o .after)) (v - r .height)) base-is in
-              e ∙ ap At k ∙ way6 _ _ _ _ _ _ (fault-none r (o .fault) (o .detail) g) (fits (o .before + o .after) (q .width) (refusalOf r 13 0) w) (fault-none r n d z)
-              (fits (above (c .«char_height») (r .line) none ls + below (c .«char_height») (r .line) none ls) (q .height) (refusalOf r 13 0) (omega arith))
-              (fits (r .height) (baseWith c q r o ls) (refusalOf r 14 0) (omega (arith, base-is)))
+        pub too-high : q .height < v .above + v .below → p ≡ Refused (refusalOf r 13 0) → p ≡ placedWith c q r o v
+        unfolding placedWith faultWith answer
+        too-high h e = e ∙ way4 _ _ _ _ _ _ _ a-none b-none c-none (exceeds (v .above + v .below) (q .height) (refusalOf r 13 0) h)
+
+        -- t is the baseline
+        module _ (y : v .above + v .below ≤ q .height) {t : ℕ}
+            (et : t ≡ standsAt (r .«just_page») (c .«char_height») (q .top) (q .height) (v .above) (v .below)) where
+          d-none : unless (leb (v .above + v .below) (q .height)) (refusalOf r 13 0) ≡ none
+          d-none = fits (v .above + v .below) (q .height) (refusalOf r 13 0) y
+
+          base : ℕ
+          base = baseWith c q r o (v .above) (v .below)
+
+          base-is : t ≡ base
+          unfolding base baseWith
+          base-is = et
+
+          pub too-low : t < r .height → p ≡ Refused (refusalOf r 14 0) → p ≡ placedWith c q r o v
+          unfolding placedWith faultWith answer base
+          too-low h e = e ∙ way5 _ _ _ _ _ _ _ a-none b-none c-none d-none (exceeds (r .height) base (refusalOf r 14 0) (omega (arith, base-is)))
+
+          pub placed : r .height ≤ t → {x : ℕ} → x ≡ standsAt (r .«just_line») (c .«char_width») (q .left) (q .width) (o .before) (o .after)
+              → {s : Span} → s ≡ recordBy q r x (t - r .height) → p ≡ At s → p ≡ placedWith c q r o v
+          unfolding placedWith faultWith recordWith answer base
+          placed h ex es ep =
+              ep ∙ ap At es ∙ ap (λ (w : ℕ). At (recordBy q r w (t - r .height))) ex
+              ∙ ap (λ (w : ℕ). At (recordBy q r (placeX (r .«just_line») (c .«char_width») q (o .before) (o .after)) (w - r .height))) base-is
+              ∙ way6 _ _ _ _ _ _ a-none b-none c-none d-none (fits (r .height) base (refusalOf r 14 0) (omega (arith, base-is)))
 
 -- ---- `lines_for`
 
-pub lines-kept : (l : LineList) (j k : ℕ) (rs : List Row) → j ≡ k → (linesIn l ≡ linesFrom j [] rs) × (faultOf (l .fault) (l .detail) ≡ fontFaultFrom j rs) × (l .count ≤ 256)
-    → (linesIn l ≡ linesFrom k [] rs) × (faultOf (l .fault) (l .detail) ≡ fontFaultFrom k rs) × (l .count ≤ 256)
-lines-kept l j k rs e h = (h .0 ∙ ap (λ (x : ℕ). linesFrom x [] rs) e, h .1 ∙ ap (λ (x : ℕ). fontFaultFrom x rs) e, h .2)
-
--- ---- small faults
-
--- the fault of sums is that of a row
-small-step : (r : Row) (o : Sums) (e : Row) → o .fault < 256 → e .fault < 256 → advanced r o e .fault < 256
-unfolding advanced
-small-step r o e h k = step (sameRow r e)
-  where
-    first : (t : Bool) → pick t (e .fault) (o .fault) < 256
-    first true = k
-    first false = h
-
-    step : (t : Bool) → pick t (joined (r .span) o e) o .fault < 256
-    step true = first (eqb (o .fault) 0)
-    step false = h
-
-sums-small : (l : List ℕ) (r : Row) (o : Sums) (i k : ℕ) → ((j : ℕ) → j < i + k → rowAt l j .fault < 256) → o .fault < 256 → sums r o (cells (rowAt l) i k) .fault < 256
-sums-small l r o i zero h z = z
-sums-small l r o i (suc k) h z = sums-small l r (advanced r o (rowAt l i)) (suc i) k (λ j p. h j (omega arith)) (small-step r o (rowAt l i) z (h i (omega arith)))
-
-pub group-small : (l : List ℕ) (n : ℕ) (r : Row) (o : Sums) → smallFaults l n → o ≡ sums r noneYet (rowsOf l n) → o .fault < 256
-unfolding rowsOf
-group-small l n r o h e = rw e (sums-small l r noneYet 0 n (λ j p. h j (omega arith)) (omega arith))
-
--- and that of lines too
-first-small : (a b : Option (ℕ × ℕ)) → faultNumber a < 256 → faultNumber b < 256 → faultNumber (orElse a b) < 256
-unfolding orElse
-first-small none b h k = k
-first-small (some x) b h k = h
-
-row-small : (j : ℕ) (r : Row) → r .fault < 256 → faultNumber (rowFault j r) < 256
-row-small j r h = step (eqb j (r .«just_page»)) (eqb (r .fault) 12)
-  where
-    own : (t : Bool) → faultNumber (pick t none (some (r .fault, r .detail))) < 256
-    own true = omega arith
-    own false = h
-
-    step : (t u : Bool) → faultNumber (pick t (faultOf (pick u 0 (r .fault)) (r .detail)) none) < 256
-    step true true = omega arith
-    step true false = own (eqb (r .fault) 0)
-    step false u = omega arith
-
-lines-small : (l : List ℕ) (m i k : ℕ) → ((j : ℕ) → j < i + k → rowAt l j .fault < 256) → faultNumber (firstFault (rowFault m) (cells (rowAt l) i k)) < 256
-lines-small l m i zero h = omega arith
-lines-small l m i (suc k) h = first-small (rowFault m (rowAt l i)) (firstFault (rowFault m) (cells (rowAt l) (suc i) k)) (row-small m (rowAt l i) (h i (omega arith))) (lines-small l m (suc i) k (λ j p. h j (omega arith)))
-
-number-is : (n d : ℕ) → faultNumber (faultOf n d) ≡ n
-number-is n d = step (eqb n 0) refl
-  where
-    step : (t : Bool) → eqb n 0 ≡ t → faultNumber (pick t none (some (n, d))) ≡ n
-    step true e = sym (eqb-true n 0 e)
-    step false e = refl
-
-pub page-small : (l : List ℕ) (n j f d : ℕ) → smallFaults l n → faultOf f d ≡ fontFaultFrom j (rowsOf l n) → f < 256
-unfolding rowsOf fontFaultFrom
-page-small l n j f d h e =
-    let k : f ≡ faultNumber (firstFault (rowFault j) (cells (rowAt l) 0 n)) = sym (number-is f d) ∙ ap faultNumber e in
-    rw k (lines-small l j 0 n (λ i p. h i (omega arith)))
+pub lines-kept : {ch : ℕ} {rows : List ℕ} {n want : ℕ} {table : List ℕ} {page : PageLines} → LinesMade ch rows n table page → page .just ≡ want
+    → PageHeights ch rows n want table page
+lines-kept {ch} {rows} {n} {want} {table} {page} m e = subst (λ (j : ℕ). PageHeights ch rows n j table page) e (m .lines)
 
 -- ---- a row's width is part of what stands from it on
 
@@ -272,7 +245,9 @@ width-in l r o i d zero e h = absurd (omega arith)
 width-in l r o i zero (suc k) e h =
     let q : rowAt l i ≡ r = ap (rowAt l) (let z : i ≡ i + 0 = omega arith in z) ∙ sym e in
     rw q (omega (arith, own-width r o, after-keeps r (advanced r o r) (cells (rowAt l) (suc i) k)))
-width-in l r o i (suc d) (suc k) e h = width-in l r (advanced r o (rowAt l i)) (suc i) d k (e ∙ ap (rowAt l) (let z : i + suc d ≡ suc i + d = omega arith in z)) (omega arith)
+width-in l r o i (suc d) (suc k) e h =
+    let z : i + suc d ≡ suc i + d = omega arith in
+    width-in l r (advanced r o (rowAt l i)) (suc i) d k (e ∙ ap (rowAt l) z) (omega arith)
 
 pub width-part : (l : List ℕ) (n i : ℕ) (r : Row) (o : Sums) → i < n → r ≡ rowAt l i → o ≡ sums r noneYet (rowsOf l n) → r .width ≤ o .after
 unfolding rowsOf
@@ -303,66 +278,134 @@ some-first : (f : Refusal) (a b : Option Refusal) → some f ≡ a → some f �
 unfolding orElse
 some-first f a b e = rw (← e)
 
-module _ (c : Config) (q : Rect) (rows : List ℕ) (n : ℕ) where
-  pub faults-start : firstFault (spanFaultAt c q (rowsOf rows n)) (cells (rowAt rows) 0 (n - 0)) ≡ firstFault (spanFaultAt c q (rowsOf rows n)) (rowsOf rows n)
-  faults-start = ap (firstFault (spanFaultAt c q (rowsOf rows n))) (all-cells rows n)
+-- the first i rows are placed, and the lines of page stand in the table
+pub record Placing (c : Config) (q : Rect) (rows : List ℕ) (n : ℕ) (out₀ : List ℕ) (at : ℕ) (out table : List ℕ) (page : PageLines) (i : ℕ) : Type 0 where
+  pub asked : Placeable q rows n out at
+  pub within : i ≤ n
+  pub lines : PageHeights (c .«char_height») rows n (page .just) table page
+  pub faults : firstFault (spanFaultAt c q (rowsOf rows n)) (cells (rowAt rows) i (n - i)) ≡ firstFault (spanFaultAt c q (rowsOf rows n)) (rowsOf rows n)
+  pub records : spansOf out (at + i) ++ map (recordAt c q (rowsOf rows n)) (cells (rowAt rows) i (n - i)) ≡ spansOf out₀ at ++ rowsRecords c q (rowsOf rows n)
+  pub room : length out ≡ length out₀
 
-  pub records-start : (out : List ℕ) (at : ℕ) → spansOf out (at + 0) ++ map (recordAt c q (rowsOf rows n)) (cells (rowAt rows) 0 (n - 0)) ≡ spansOf out at ++ rowsRecords c q (rowsOf rows n)
-  unfolding rowsRecords
-  records-start out at = rw (all-cells rows n, (let e : at + 0 ≡ at = omega arith in e))
+-- the lines kept are those of their own justification
+own-lines : {ch : ℕ} {rows : List ℕ} {n just : ℕ} {table : List ℕ} {page : PageLines} → PageHeights ch rows n just table page
+    → PageHeights ch rows n (page .just) table page
+own-lines {ch} {rows} {n} {just} {table} {page} h = subst (λ (j : ℕ). PageHeights ch rows n j table page) (sym (h .page)) h
 
-  -- what `place_span` answered, with the sums o and the lines ls
-  pub answer-is : (r : Row) (o : Sums) (ls : List Line) (f : Option (ℕ × ℕ)) (p : Placed) → o ≡ sums r noneYet (rowsOf rows n) → ls ≡ linesFrom (r .«just_page») [] (rowsOf rows n) → f ≡ fontFaultFrom (r .«just_page») (rowsOf rows n)
-      → p ≡ placedBy (faultWith c q r o ls f) (recordWith c q r o ls) → p ≡ placedBy (spanFaultAt c q (rowsOf rows n) r) (recordAt c q (rowsOf rows n) r)
-  unfolding spanFaultAt recordAt
-  answer-is r o ls f p eo el ef e = rw (← eo, ← el, ← ef) e
+pub placing-start : {c : Config} {q : Rect} {rows : List ℕ} {n : ℕ} {out : List ℕ} {at just : ℕ} {table : List ℕ} {page : PageLines} → Placeable q rows n out at
+    → PageHeights (c .«char_height») rows n just table page → Placing c q rows n out at out table page 0
+unfolding rowsRecords
+placing-start {c} {q} {rows} {n} {out} {at} a h =
+    record {
+      asked = a;
+      within = omega arith;
+      lines = own-lines h;
+      faults = ap (firstFault (spanFaultAt c q (rowsOf rows n))) (all-cells rows n);
+      records = rw (all-cells rows n, (let e : at + 0 ≡ at = omega arith in e));
+      room = refl;
+    }
 
-  -- r is the row read, p the answer
-  module _ (i : ℕ) (h : i < n) (r : Row) (e : r ≡ rowAt rows i) (p : Placed) (a : p ≡ placedBy (spanFaultAt c q (rowsOf rows n) r) (recordAt c q (rowsOf rows n) r)) where
+module _ {c : Config} {q : Rect} {rows : List ℕ} {n : ℕ} {out₀ : List ℕ} {at : ℕ} {out table : List ℕ} {page : PageLines} {i : ℕ}
+    (z : Placing c q rows n out₀ at out table page i) where
+  pub lines-made : LinesMade (c .«char_height») rows n table page
+  lines-made = record { few = omega (arith, z .asked .few); rowed = z .asked .rowed; lines = z .lines }
+
+  pub placing-end : n ≤ i → RowByRow c q rows n out₀ at out None
+  placing-end h =
+      let x : at + n ≡ at + i = omega (arith, z .within) in
+      record {
+        fault = rw (cells-done (rowAt rows) i n h) at (z .faults);
+        written = λ _.
+            ap (spansOf out) x ∙ sym (append-nil (spansOf out (at + i)))
+            ∙ ap (λ (l : List Row). spansOf out (at + i) ++ map (recordAt c q (rowsOf rows n)) l) (sym (cells-done (rowAt rows) i n h)) ∙ z .records;
+        room = z .room;
+      }
+
+  -- r is the row read, o its sums and v its heights; the lines of page′ are its own
+  module _ (more : i < n) {r : Row} (e : r ≡ rowAt rows i) {o : Sums} (so : SumsOf rows n r o) {table′ : List ℕ} {page′ : PageLines}
+      (h : PageHeights (c .«char_height») rows n (r .«just_page») table′ page′) {v : Heights} (ev : v ≡ heightsIn page′ table′ (r .line)) where
+    tall : HeightsOf (c .«char_height») rows n (r .«just_page») (r .line) v
+    tall = heights-are h (r .line) ev
+
+    pub span-asks : SpanAsked q r o v
+    span-asks =
+        record {
+          across = z .asked .across;
+          down = z .asked .down;
+          sums = so .most;
+          part = width-part rows n i r o more e (so .is);
+          high = tall .small;
+        }
+
     ahead : cells (rowAt rows) i (n - i) ≡ r ∷ cells (rowAt rows) (i + 1) (n - (i + 1))
-    ahead = cells-next (rowAt rows) i n h ∙ ap (λ (x : Row). x ∷ cells (rowAt rows) (i + 1) (n - (i + 1))) (sym e)
+    ahead = cells-next (rowAt rows) i n more ∙ ap (λ (x : Row). x ∷ cells (rowAt rows) (i + 1) (n - (i + 1))) (sym e)
 
-    pub rows-stop : (f : Refusal) (w : Option Refusal) → p ≡ Refused f → firstFault (spanFaultAt c q (rowsOf rows n)) (cells (rowAt rows) i (n - i)) ≡ w → some f ≡ w
-    rows-stop f w k inv =
-        some-first f (spanFaultAt c q (rowsOf rows n) r) (firstFault (spanFaultAt c q (rowsOf rows n)) (cells (rowAt rows) (i + 1) (n - (i + 1)))) (refused-is f (spanFaultAt c q (rowsOf rows n) r) (recordAt c q (rowsOf rows n) r) (sym k ∙ a))
-        ∙ ap (firstFault (spanFaultAt c q (rowsOf rows n))) (sym ahead) ∙ inv
+    -- p is the answer of `place_span`
+    module _ {p : Placed} (ep : p ≡ placedWith c q r o v) where
+      answered : p ≡ placedBy (spanFaultAt c q (rowsOf rows n) r) (recordAt c q (rowsOf rows n) r)
+      unfolding placedWith spanFaultAt recordAt aboveAt belowAt
+      answered = rw (← so .is, ← tall .over, ← tall .under, ← tall .font) ep
 
-    module _ (s : Span) (k : p ≡ At s) where
-      fits-in : (spanFaultAt c q (rowsOf rows n) r ≡ none) × (s ≡ recordAt c q (rowsOf rows n) r)
-      fits-in = at-is s (spanFaultAt c q (rowsOf rows n) r) (recordAt c q (rowsOf rows n) r) (sym k ∙ a)
+      later : Option Refusal
+      later = firstFault (spanFaultAt c q (rowsOf rows n)) (cells (rowAt rows) (i + 1) (n - (i + 1)))
 
-      pub rows-on : (w : Option Refusal) → firstFault (spanFaultAt c q (rowsOf rows n)) (cells (rowAt rows) i (n - i)) ≡ w → firstFault (spanFaultAt c q (rowsOf rows n)) (cells (rowAt rows) (i + 1) (n - (i + 1))) ≡ w
-      rows-on w inv =
-          sym (none-first (spanFaultAt c q (rowsOf rows n) r) (firstFault (spanFaultAt c q (rowsOf rows n)) (cells (rowAt rows) (i + 1) (n - (i + 1)))) (fits-in .0))
-          ∙ ap (firstFault (spanFaultAt c q (rowsOf rows n))) (sym ahead) ∙ inv
+      here : firstFault (spanFaultAt c q (rowsOf rows n)) (cells (rowAt rows) i (n - i)) ≡ orElse (spanFaultAt c q (rowsOf rows n) r) later
+      unfolding later
+      here = ap (firstFault (spanFaultAt c q (rowsOf rows n))) ahead
 
-      pub records-on : (at : ℕ) (out new : List ℕ) (w : List Span) → 15 * (at + n) ≤ length out → new ≡ putSpan out (at + i) s
-          → spansOf out (at + i) ++ map (recordAt c q (rowsOf rows n)) (cells (rowAt rows) i (n - i)) ≡ w
-          → spansOf new (at + (i + 1)) ++ map (recordAt c q (rowsOf rows n)) (cells (rowAt rows) (i + 1) (n - (i + 1))) ≡ w
-      records-on at out new w m g inv =
+      pub placing-stop : {f : Refusal} → p ≡ Refused f → RowByRow c q rows n out₀ at out (Some f)
+      placing-stop {f} k =
+          record {
+            fault =
+                some-first f (spanFaultAt c q (rowsOf rows n) r) later (refused-is f _ (recordAt c q (rowsOf rows n) r) (sym k ∙ answered))
+                ∙ sym here ∙ z .faults;
+            written = not-none f;
+            room = z .room;
+          }
+
+      pub placing-on : {s : Span} → p ≡ At s → {out′ : List ℕ} → SpanPut out (at + i) s out′ → Placing c q rows n out₀ at out′ table′ page′ (i + 1)
+      unfolding later
+      placing-on {s} k {out′} w =
+          let fit : (spanFaultAt c q (rowsOf rows n) r ≡ none) × (s ≡ recordAt c q (rowsOf rows n) r) =
+          at-is s (spanFaultAt c q (rowsOf rows n) r) (recordAt c q (rowsOf rows n) r) (sym k ∙ answered) in
           let rest : List Span = map (recordAt c q (rowsOf rows n)) (cells (rowAt rows) (i + 1) (n - (i + 1))) in
           let x : at + (i + 1) ≡ at + i + 1 = omega arith in
-          let y : spansOf new (at + (i + 1)) ≡ spansOf out (at + i) ++ (s ∷ []) = ap (spansOf new) x ∙ ap (λ (l : List ℕ). spansOf l (at + i + 1)) g ∙ spans-put out (at + i) s (omega arith) in
-          ap (λ (l : List Span). l ++ rest) y ∙ append-assoc (spansOf out (at + i)) (s ∷ []) rest
-          ∙ ap (λ (t : Span). spansOf out (at + i) ++ (t ∷ rest)) (fits-in .1)
-          ∙ ap (λ (l : List Row). spansOf out (at + i) ++ map (recordAt c q (rowsOf rows n)) l) (sym ahead) ∙ inv
-
-  module _ (i : ℕ) (h : n ≤ i) where
-    pub rows-end : (w : Option Refusal) → firstFault (spanFaultAt c q (rowsOf rows n)) (cells (rowAt rows) i (n - i)) ≡ w → none ≡ w
-    rows-end w inv = rw (cells-done (rowAt rows) i n h) at inv
-
-    pub records-end : (at : ℕ) (out : List ℕ) (w : List Span) → i ≤ n → spansOf out (at + i) ++ map (recordAt c q (rowsOf rows n)) (cells (rowAt rows) i (n - i)) ≡ w → spansOf out (at + n) ≡ w
-    records-end at out w k inv =
-        let x : at + n ≡ at + i = omega arith in
-        ap (spansOf out) x ∙ sym (append-nil (spansOf out (at + i))) ∙ ap (λ (l : List Row). spansOf out (at + i) ++ map (recordAt c q (rowsOf rows n)) l) (sym (cells-done (rowAt rows) i n h)) ∙ inv
+          let y : spansOf out′ (at + (i + 1)) ≡ spansOf out (at + i) ++ (s ∷ []) =
+          ap (spansOf out′) x ∙ ap (λ (l : List ℕ). spansOf l (at + i + 1)) (w .put) ∙ spans-put out (at + i) s (omega (arith, z .asked .room)) in
+          record {
+            asked =
+                record {
+                  few = z .asked .few;
+                  rowed = z .asked .rowed;
+                  room = omega (arith, z .asked .room, w .room);
+                  across = z .asked .across;
+                  down = z .asked .down;
+                };
+            within = omega arith;
+            lines = own-lines h;
+            faults = sym (none-first (spanFaultAt c q (rowsOf rows n) r) later (fit .0)) ∙ sym here ∙ z .faults;
+            records =
+                ap (λ (l : List Span). l ++ rest) y ∙ append-assoc (spansOf out (at + i)) (s ∷ []) rest
+                ∙ ap (λ (t : Span). spansOf out (at + i) ++ (t ∷ rest)) (fit .1)
+                ∙ ap (λ (l : List Row). spansOf out (at + i) ++ map (recordAt c q (rowsOf rows n)) l) (sym ahead) ∙ z .records;
+            room = w .room ∙ z .room;
+          }
 
 -- ---- `place_pass`: b is what `check_justification` answered
 
-module _ (c : Config) (q : Rect) (rs : List Row) (b : OptRefusal) (e : faultIs b ≡ backRows 0 0 0 rs) where
-  pub pass-back : (f : Refusal) → b ≡ Some f → some f ≡ rowsFault c q rs
+module _ {c : Config} {q : Rect} {rows : List ℕ} {n : ℕ} {b : OptRefusal} (e : faultIs b ≡ backRows 0 0 0 (rowsOf rows n)) where
+  pub pass-back : {out : List ℕ} {at : ℕ} {f : Refusal} → b ≡ Some f → PassPlaced c q rows n out at out (Some f)
   unfolding rowsFault
-  pass-back f k = some-first f (backRows 0 0 0 rs) (firstFault (spanFaultAt c q rs) rs) (ap faultIs (sym k) ∙ e)
+  pass-back {f = f} k =
+      let rs : List Row = rowsOf rows n in
+      record { fault = some-first f (backRows 0 0 0 rs) (firstFault (spanFaultAt c q rs) rs) (ap faultIs (sym k) ∙ e); written = not-none f; room = refl }
 
-  pub pass-on : b ≡ None → (r : OptRefusal) → faultIs r ≡ firstFault (spanFaultAt c q rs) rs → faultIs r ≡ rowsFault c q rs
+  pub pass-on : {out : List ℕ} {at : ℕ} {out′ : List ℕ} {r : OptRefusal} → b ≡ None → RowByRow c q rows n out at out′ r → PassPlaced c q rows n out at out′ r
   unfolding rowsFault
-  pass-on k r d = d ∙ sym (none-first (backRows 0 0 0 rs) (firstFault (spanFaultAt c q rs) rs) (sym e ∙ ap faultIs k))
+  pass-on k d =
+      let rs : List Row = rowsOf rows n in
+      record {
+        fault = d .fault ∙ sym (none-first (backRows 0 0 0 rs) (firstFault (spanFaultAt c q rs) rs) (sym e ∙ ap faultIs k));
+        written = d .written;
+        room = d .room;
+      }

@@ -1,5 +1,5 @@
 -- Document 01, "Placing", over the measured rows of a pass: the records, and the first of refusals 9 to 14.
-use Prim.Native.Nat.{ℕ, suc, _+_, _-_, _/_, _≤_, _<_}
+use Prim.Native.Nat.{ℕ, suc, _+_, _-_, _/_, _≤_}
 use mathlib.Core.Path.{_≡_}
 use mathlib.Core.Bool.{Bool, not, _&&_, _||_}
 use mathlib.Core.Option.{Option, none, some}
@@ -12,22 +12,20 @@ use Rattle.records.specs.declared.Config.{Config}
 use Rattle.layout.specs.declared.Rect.{Rect}
 use Rattle.layout.specs.declared.Span.{Span}
 use Rattle.refusal.specs.Refusals.{refusal}
-use Rattle.layout.specs.Place.{Line, trunc, orElse, unless, firstFault, placeX, above, below, baseline}
-use Rattle.rows.specs.declared.Row.{Row}
+use Rattle.layout.specs.Place.{trunc, orElse, unless, firstFault, placeX, above, below, baseline}
 use Rattle.refusal.specs.declared.OptRefusal.{OptRefusal}
 use Rattle.refusal.specs.declared.OptRefusal.the-variants.{None}
 use Rattle.page.specs.Scan.{faultIs}
-use Rattle.rows.specs.Rows.{RowRoom, SpanRoom, rowAt, rowsOf, spansOf}
+use Rattle.rows.specs.declared.Row.{Row}
+use Rattle.rows.specs.Rows.{RowRoom, SpanRoom, rowsOf, spansOf}
 use Rattle.rows.specs.Measured.{faultOf}
 use Rattle.across.specs.declared.Sums.{Sums}
 use Rattle.across.specs.Sums.{sums, noneYet}
-use Rattle.lines.specs.Lines.{linesFrom, fontFaultFrom}
+use Rattle.lines.specs.declared.PageLines.{PageLines}
+use Rattle.lines.specs.declared.Heights.{Heights}
+use Rattle.lines.specs.Lines.{linesFrom, fontFaultFrom, PageHeights}
 use Rattle.place.specs.declared.Placed.{Placed}
 use Rattle.place.specs.declared.Placed.the-variants.{At, Refused}
-
--- the fault numbers of the first n rows fit a byte
-abbrev pub smallFaults : List ℕ → ℕ → Type 0
-smallFaults l n = (i : ℕ) → i < n → rowAt l i .fault < 256
 
 -- ---- 9
 
@@ -37,7 +35,8 @@ goesBackFrom j l k e = ltb (e .«just_page») j || (eqb (e .«just_page») j && 
 
 abbrev pub backRows : ℕ → ℕ → ℕ → List Row → Option Refusal
 backRows j l k [] = none
-backRows j l k (e ∷ es) = orElse (unless (not (goesBackFrom j l k e)) (refusal 9 (e .start) (e .len) 0)) (backRows (e .«just_page») (e .line) (e .«just_line») es)
+backRows j l k (e ∷ es) =
+    orElse (unless (not (goesBackFrom j l k e)) (refusal 9 (e .start) (e .len) 0)) (backRows (e .«just_page») (e .line) (e .«just_line») es)
 
 -- ---- a row's place
 
@@ -72,16 +71,10 @@ abbrev pub faultAt : Row → Option (ℕ × ℕ) → Option Refusal
 faultAt r none = none
 faultAt r (some f) = some (refusalOf r (f .0) (f .1))
 
--- a row with the sums o of its group, the lines ls of its page and their first font fault f
-module _ (c : Config) (q : Rect) (r : Row) (o : Sums) (ls : List Line) where
-  unfoldable pub aboveWith : ℕ
-  aboveWith = above (c .«char_height») (r .line) none ls
-
-  unfoldable pub belowWith : ℕ
-  belowWith = below (c .«char_height») (r .line) none ls
-
+-- a row with the sums o of its group, a above the foot of its line and b below it, and the first font fault f of its page's lines
+module _ (c : Config) (q : Rect) (r : Row) (o : Sums) (a b : ℕ) where
   unfoldable pub baseWith : ℕ
-  baseWith = baseline (r .«just_page») (c .«char_height») q aboveWith belowWith
+  baseWith = baseline (r .«just_page») (c .«char_height») q a b
 
   unfoldable pub recordWith : Span
   recordWith = recordBy q r (placeX (r .«just_line») (c .«char_width») q (o .before) (o .after)) (baseWith - r .height)
@@ -91,7 +84,7 @@ module _ (c : Config) (q : Rect) (r : Row) (o : Sums) (ls : List Line) where
       orElse (faultAt r (faultOf (o .fault) (o .detail)))
       (orElse (unless (leb (o .before + o .after) (q .width)) (refusalOf r 13 0))
       (orElse (faultAt r f)
-      (orElse (unless (leb (aboveWith + belowWith) (q .height)) (refusalOf r 13 0))
+      (orElse (unless (leb (a + b) (q .height)) (refusalOf r 13 0))
       (unless (leb (r .height) baseWith) (refusalOf r 14 0)))))
 
 -- a refusal, or else a record
@@ -99,14 +92,32 @@ abbrev pub placedBy : Option Refusal → Span → Placed
 placedBy none s = At s
 placedBy (some f) s = Refused f
 
+-- the same with the heights v
+unfoldable pub placedWith : Config → Rect → Row → Sums → Heights → Placed
+placedWith c q r o v = placedBy (faultWith c q r o (v .above) (v .below) (faultOf (v .fault) (v .detail))) (recordWith c q r o (v .above) (v .below))
+
+-- sums and heights that a row can be placed with
+pub record SpanAsked (q : Rect) (r : Row) (o : Sums) (v : Heights) : Type 0 where
+  pub across : q .left + q .width ≤ 4096
+  pub down : q .top + q .height ≤ 4096
+  pub sums : o .before + o .after ≤ 17592186044416
+  pub part : r .width ≤ o .after
+  pub high : v .above + v .below ≤ 33554432
+
 -- ---- the rows of a pass
 
 module _ (c : Config) (q : Rect) (rs : List Row) where
+  unfoldable pub aboveAt : Row → ℕ
+  aboveAt r = above (c .«char_height») (r .line) none (linesFrom (r .«just_page») [] rs)
+
+  unfoldable pub belowAt : Row → ℕ
+  belowAt r = below (c .«char_height») (r .line) none (linesFrom (r .«just_page») [] rs)
+
   unfoldable pub recordAt : Row → Span
-  recordAt r = recordWith c q r (sums r noneYet rs) (linesFrom (r .«just_page») [] rs)
+  recordAt r = recordWith c q r (sums r noneYet rs) (aboveAt r) (belowAt r)
 
   unfoldable pub spanFaultAt : Row → Option Refusal
-  spanFaultAt r = faultWith c q r (sums r noneYet rs) (linesFrom (r .«just_page») [] rs) (fontFaultFrom (r .«just_page») rs)
+  spanFaultAt r = faultWith c q r (sums r noneYet rs) (aboveAt r) (belowAt r) (fontFaultFrom (r .«just_page») rs)
 
   -- 9, then row by row
   unfoldable pub rowsFault : Option Refusal
@@ -115,18 +126,27 @@ module _ (c : Config) (q : Rect) (rs : List Row) where
   unfoldable pub rowsRecords : List Span
   rowsRecords = map recordAt rs
 
--- ---- `place_pass`
-
--- n rows can be placed in the rectangle q, as records from number at on
+-- the first n rows can be placed in the rectangle q, as records from number at on
 pub record Placeable (q : Rect) (rows : List ℕ) (n : ℕ) (out : List ℕ) (at : ℕ) : Type 0 where
   pub few : at + n ≤ 2048
   pub rowed : RowRoom n rows
   pub room : SpanRoom (at + n) out
   pub across : q .left + q .width ≤ 4096
   pub down : q .top + q .height ≤ 4096
-  pub faults : smallFaults rows n
 
--- they were, or r is their first refusal
+-- the lines of page, the last ones made, stand in the table
+pub record LinesMade (ch : ℕ) (rows : List ℕ) (n : ℕ) (table : List ℕ) (page : PageLines) : Type 0 where
+  pub few : n ≤ 2048
+  pub rowed : RowRoom n rows
+  pub lines : PageHeights ch rows n (page .just) table page
+
+-- they were placed row by row: a refusal, or all records
+pub record RowByRow (c : Config) (q : Rect) (rows : List ℕ) (n : ℕ) (out : List ℕ) (at : ℕ) (out′ : List ℕ) (r : OptRefusal) : Type 0 where
+  pub fault : faultIs r ≡ firstFault (spanFaultAt c q (rowsOf rows n)) (rowsOf rows n)
+  pub written : r ≡ None → spansOf out′ (at + n) ≡ spansOf out at ++ rowsRecords c q (rowsOf rows n)
+  pub room : length out′ ≡ length out
+
+-- the pass was placed: 9 before them
 pub record PassPlaced (c : Config) (q : Rect) (rows : List ℕ) (n : ℕ) (out : List ℕ) (at : ℕ) (out′ : List ℕ) (r : OptRefusal) : Type 0 where
   pub fault : faultIs r ≡ rowsFault c q (rowsOf rows n)
   pub written : r ≡ None → spansOf out′ (at + n) ≡ spansOf out at ++ rowsRecords c q (rowsOf rows n)

@@ -1,20 +1,18 @@
 // Placing the spans of one pass: each measured row becomes a record, or the first refusal is answered.
 ghost use mathlib.Core.Path.{_≡_};
-ghost use mathlib.Core.List.{[], _++_};
-ghost use Prim.Native.Nat.{_+_, _*_, _≤_, _<_};
+ghost use Prim.Native.Nat.{_+_, _≤_, _<_};
 ghost use lib.ListN.{length};
-ghost use Rattle.layout.specs.Place.{trunc as truncOf, firstFault};
-ghost use Rattle.refusal.specs.declared.OptRefusal.the-variants.{None};
+ghost use Rattle.layout.specs.Place.{trunc as truncOf};
 ghost use Rattle.page.specs.Scan.{faultIs};
-ghost use Rattle.rows.specs.Rows.{rowsOf, spansOf};
-ghost use Rattle.rows.specs.Measured.{faultOf};
-ghost use Rattle.lines.specs.Lines.{linesIn, linesFrom, fontFaultFrom};
+ghost use Rattle.rows.specs.Rows.{RowRoom, rowsOf};
+ghost use Rattle.lines.specs.Lines.{PageHeights};
 ghost use Rattle.place.specs.declared.Placed.the-variants.{Refused};
-ghost use Rattle.place.specs.Placed.{smallFaults, goesBackFrom, backRows, standsAt, refusalOf, recordBy, faultWith, recordWith, placedBy, spanFaultAt, rowsRecords, Placeable, PassPlaced};
+ghost use Rattle.place.specs.Placed.{goesBackFrom, backRows, standsAt, refusalOf, recordBy, SpanAsked, placedWith, LinesMade, Placeable, RowByRow, PassPlaced};
 use across::Sums;
 use layout::Rect;
 use layout::Span;
-use lines::LineList;
+use lines::Heights;
+use lines::PageLines;
 use records::Config;
 use refusal::OptRefusal;
 use refusal::Refusal;
@@ -27,7 +25,7 @@ pub enum Placed {
 }
 
 // Whether a row's justification goes back from that of the row before.
-fn goes_back(page: u16, line: u16, just: u16, e: Row) -> bool
+fn goes_back(page: u16, line: u8, just: u16, e: Row) -> bool
     ensures { λ b. ⌜ b ≡ goesBackFrom page line just e ⌝ }
 {
     if e.just_page < page {
@@ -44,11 +42,11 @@ fn goes_back(page: u16, line: u16, just: u16, e: Row) -> bool
 
 // Refusal 9, of the first row whose justification goes back.
 fn check_justification(rows: &[u16], n: usize) -> OptRefusal
-    requires { ⌜ (n ≤ 2048) × (19 * n ≤ length (now rows)) ⌝ }
+    requires { ⌜ (n ≤ 2048) × RowRoom n (now rows) ⌝ }
     ensures { λ r. ⌜ faultIs r ≡ backRows 0 0 0 (rowsOf (now (rows .entry)) n) ⌝ }
 {
     let mut page: u16 = 0;
-    let mut line: u16 = 0;
+    let mut line: u8 = 0;
     let mut just: u16 = 0;
     let mut i: usize = 0;
     while i < n {
@@ -94,12 +92,11 @@ fn stand(just: u16, grid: u8, from: u16, size: u16, a: u64, b: u64) -> u16
 }
 
 // A refusal of the span being placed.
-fn refused(r: Row, number: u16, detail: u16) -> Placed
-    requires { ⌜ number < 256 ⌝ }
+fn refused(r: Row, number: u8, detail: u16) -> Placed
     ensures { λ p. ⌜ p ≡ Refused (refusalOf r number detail) ⌝ }
 {
     Placed::Refused(Refusal {
-        number: number as u8,
+        number,
         start: r.start,
         length: r.len,
         detail,
@@ -120,7 +117,7 @@ fn record_of(rect: Rect, r: Row, x: u16, y: u16) -> Span
         width: r.width as u16,
         height: r.height,
         font: r.font,
-        line: r.line,
+        line: base::wide16(r.line),
         span: r.span,
         rect_x: rect.left + 1,
         rect_y: rect.top + 1,
@@ -129,10 +126,10 @@ fn record_of(rect: Rect, r: Row, x: u16, y: u16) -> Span
     }
 }
 
-// The span of a row, with the sums of its group and the lines of its page; the faults of x before those of y.
-fn place_span(c: Config, rect: Rect, r: Row, o: Sums, list: LineList) -> Placed
-    requires { ⌜ (rect .left + rect .width ≤ 4096) × (rect .top + rect .height ≤ 4096) × (o .before + o .after ≤ 17592186044416) × (o .fault < 256) × (r .width ≤ o .after) × (list .count ≤ 256) × (list .fault < 256) ⌝ }
-    ensures { λ p. ⌜ p ≡ placedBy (faultWith c rect r o (linesIn list) (faultOf (list .fault) (list .detail))) (recordWith c rect r o (linesIn list)) ⌝ }
+// The span of a row, with the sums of its group and the heights of its line; the faults of x before those of y.
+fn place_span(c: Config, rect: Rect, r: Row, o: Sums, v: Heights) -> Placed
+    requires { ⌜ SpanAsked rect r o v ⌝ }
+    ensures { λ p. ⌜ p ≡ placedWith c rect r o v ⌝ }
 {
     if o.fault != 0 {
         return refused(r, o.fault, o.detail);
@@ -140,10 +137,9 @@ fn place_span(c: Config, rect: Rect, r: Row, o: Sums, list: LineList) -> Placed
     if (rect.width as u64) < o.before + o.after {
         return refused(r, 13, 0);
     }
-    if list.fault != 0 {
-        return refused(r, list.fault, list.detail);
+    if v.fault != 0 {
+        return refused(r, v.fault, v.detail);
     }
-    let v = lines::offset_vert(c.char_height, list, r.line);
     if (rect.height as u64) < v.above + v.below {
         return refused(r, 13, 0);
     }
@@ -169,15 +165,22 @@ fn place_span(c: Config, rect: Rect, r: Row, o: Sums, list: LineList) -> Placed
     Placed::At(record_of(rect, r, x, foot - r.height))
 }
 
-// The lines of a page justification, made anew if it is another than that of the lines there.
-fn lines_for(list: LineList, just: u16, rows: &[u16], n: usize, want: u16) -> LineList
-    requires { ⌜ (n ≤ 2048) × (19 * n ≤ length (now rows)) × (linesIn list ≡ linesFrom just [] (rowsOf (now rows) n)) × (faultOf (list .fault) (list .detail) ≡ fontFaultFrom just (rowsOf (now rows) n)) × (list .count ≤ 256) ⌝ }
-    ensures { λ l. ⌜ (linesIn l ≡ linesFrom want [] (rowsOf (now (rows .entry)) n)) × (faultOf (l .fault) (l .detail) ≡ fontFaultFrom want (rowsOf (now (rows .entry)) n)) × (l .count ≤ 256) ⌝ }
+// The lines of a page justification: those there, or made anew if these are of another.
+fn lines_for(
+    page: PageLines,
+    char_height: u8,
+    rows: &[u16],
+    n: usize,
+    want: u16,
+    feet: &mut [u32],
+) -> PageLines
+    requires { ⌜ LinesMade «char_height» (now rows) n (now feet) page ⌝ }
+    ensures { λ p. ⌜ PageHeights «char_height» (now (rows .entry)) n want (now (feet .exit)) p ⌝ }
 {
-    if just == want {
-        return list;
+    if page.just == want {
+        return page;
     }
-    lines::line_list(rows, n, want)
+    lines::page_lines(char_height, rows, n, want, feet)
 }
 
 // Row by row: a refusal, or all records.
@@ -189,20 +192,18 @@ fn place_rows(
     out: &mut [u16],
     at: usize,
 ) -> OptRefusal
-    requires { ⌜ (at + n ≤ 2048) × (19 * n ≤ length (now rows)) × (15 * (at + n) ≤ length (now out)) × (rect .left + rect .width ≤ 4096) × (rect .top + rect .height ≤ 4096) × smallFaults (now rows) n ⌝ }
-    ensures { λ r. ⌜ (faultIs r ≡ firstFault (spanFaultAt c rect (rowsOf (now (rows .entry)) n)) (rowsOf (now (rows .entry)) n))
-        × (r ≡ None → spansOf (now (out .exit)) (at + n) ≡ spansOf (now (out .entry)) at ++ rowsRecords c rect (rowsOf (now (rows .entry)) n))
-        × (length (now (out .exit)) ≡ length (now (out .entry))) ⌝ }
+    requires { ⌜ Placeable rect (now rows) n (now out) at ⌝ }
+    ensures { λ r. ⌜ RowByRow c rect (now (rows .entry)) n (now (out .entry)) at (now (out .exit)) r ⌝ }
 {
-    let mut just: u16 = 2;
-    let mut list = lines::line_list(rows, n, 2);
+    let mut feet = [0u32; 256];
+    let mut page = lines::page_lines(c.char_height, rows, n, 2, &mut feet);
     let mut i: usize = 0;
     while i < n {
         let r = rows::row_at(rows, i);
-        list = lines_for(list, just, rows, n, r.just_page);
-        just = r.just_page;
+        page = lines_for(page, c.char_height, rows, n, r.just_page, &mut feet);
+        let v = lines::offset_vert(page, &feet, r.line);
         let o = across::offset_horiz(rows, n, r);
-        match place_span(c, rect, r, o, list) {
+        match place_span(c, rect, r, o, v) {
             Placed::Refused(f) => {
                 return OptRefusal::Some(f);
             }

@@ -1,15 +1,24 @@
--- What a stored row is read as, and the rows beside it.
+-- What a stored row is read as, and the rows beside it: over any width, then of measured spans and of records.
 use Prim.Native.Nat.{ℕ, zero, suc, _+_, _-_, _*_, _/_, _%_, _≤_, _<_}
-use mathlib.Core.Path.{_≡_, refl, _∙_, ap}
+use mathlib.Core.Path.{_≡_, refl, sym, _∙_, ap}
+use mathlib.Core.Bool.{Bool, true, false}
+use mathlib.Core.Option.{none, some}
 use mathlib.Core.List.{List, [], _∷_, _++_}
 use native.Mathlib.Numerals.{add-one}
-use native.Mathlib.Nat.{mod-eq-of-lt, mod-lt, div-add-mod}
+use native.Mathlib.Nat.{mod-eq-of-lt, div-add-mod, mul-suc, mul-le-mul-left}
 use native.Mathlib.Omega.{arith}
-use lib.ListN.{length, getD, set, length-set}
-use lib.Seq.{getD-set-same, getD-set-other}
+use lib.Dec.{ltb, eqb}
+use lib.ListN.{length, getD, set, take, drop, length-append, length-set, drop-of-length-le}
+use lib.Seq.{length-take-le, drop-cons, take-at, drop-at, drop-append-le, drop-set-lt, drop-set-add, take-set-le, sets, length-sets, sets-eq}
+use borrow.Author.Tests.{ltb-true, ltb-false}
+use Rattle.base.specs.Pick.{pick}
 use Rattle.layout.specs.declared.Span.{Span}
+use Rattle.layout.specs.Place.{orElse}
+use Rattle.rows.specs.declared.Fault.{Fault}
 use Rattle.rows.specs.declared.Row.{Row}
-use Rattle.rows.specs.Rows.{cells, storeAt, entryHead, entryTail, putRow, rowWith, rowAt, rowsOf, spanHead, spanTail, putSpan, spanAt, spansOf}
+use Rattle.rows.specs.Measured.{faultOf, earlierOf}
+use Rattle.rows.specs.Rows.{cells, cellsAt, stored, rowWidth, RowRoom, numbersOf, rowWith, rowFrom, rowAt, putRow, rowsOf, ByteFields, RowPut}
+use Rattle.rows.specs.Rows.{spanWidth, SpanRoom, spanNumbers, spanFrom, spanAt, putSpan, spansOf, SpanPut}
 
 -- ---- cells
 
@@ -33,209 +42,135 @@ module _ {A : Type 0} where
   pub cells-done : (f : ℕ → A) (i n : ℕ) → n ≤ i → cells f i (n - i) ≡ []
   cells-done f i n h = let z : n - i ≡ 0 = omega arith in rw z
 
--- ---- stores
+  pub cells-length : (f : ℕ → A) (i k : ℕ) → length (cells f i k) ≡ k
+  cells-length f i zero = refl
+  cells-length f i (suc k) = ap suc (cells-length f (suc i) k)
 
-pub store-length : (k j : ℕ) (ws l : List ℕ) → length (storeAt k j ws l) ≡ length l
-store-length k j [] l = refl
-store-length k j (w ∷ ws) l = store-length k (suc j) ws (set l (k + j) w) ∙ length-set l (k + j) w
+-- ---- `store`: the first i numbers stand in the cells
 
-store-below : (k j p : ℕ) (ws l : List ℕ) → p < k + j → getD (storeAt k j ws l) p 0 ≡ getD l p 0
-store-below k j p [] l h = refl
-store-below k j p (w ∷ ws) l h = store-below k (suc j) p ws (set l (k + j) w) (omega arith) ∙ getD-set-other l (k + j) p w 0 (λ e. omega arith)
+pub record Storing (cells₀ : List ℕ) (at : ℕ) (numbers cells : List ℕ) (i : ℕ) : Type 0 where
+  pub few : at < 65536
+  pub fits : at + length numbers ≤ length cells
+  pub rest : sets cells (at + i) (drop i numbers) ≡ sets cells₀ at numbers
+  pub room : length cells ≡ length cells₀
 
-store-at : (k j m p : ℕ) (ws l : List ℕ) → p ≡ k + (j + m) → m < length ws → k + (j + length ws) ≤ length l → getD (storeAt k j ws l) p 0 ≡ getD ws m 0
-store-at k j m p [] l e h r = absurd (omega arith)
-store-at k j zero p (w ∷ ws) l e h r =
-    let q : p ≡ k + j = omega arith in
-    store-below k (suc j) p ws (set l (k + j) w) (omega arith) ∙ ap (λ (n : ℕ). getD (set l (k + j) w) n 0) q ∙ getD-set-same l (k + j) w 0 (omega arith)
-store-at k j (suc m) p (w ∷ ws) l e h r = store-at k (suc j) m p ws (set l (k + j) w) (omega arith) (omega arith) (omega (arith, length-set l (k + j) w))
+pub store-start : {cells : List ℕ} {at : ℕ} {numbers : List ℕ} → (at < 65536) × (at + length numbers ≤ length cells) → Storing cells at numbers cells 0
+store-start {cells} {at} {numbers} h =
+    let e : at + 0 ≡ at = omega arith in
+    record { few = h .0; fits = h .1; rest = ap (λ (k : ℕ). sets cells k numbers) e; room = refl }
 
--- two stores in a row: b right after a
-module _ (k j : ℕ) (a b l : List ℕ) (e : j ≡ length a) (r : k + (j + length b) ≤ length l) where
-  both : List ℕ
-  both = storeAt k j b (storeAt k 0 a l)
+module _ {cells₀ : List ℕ} {at : ℕ} {numbers cells : List ℕ} {i : ℕ} (s : Storing cells₀ at numbers cells i) where
+  pub store-on : i < length numbers → Storing cells₀ at numbers (set cells (at + i) (getD numbers i 0)) (i + 1)
+  store-on h =
+      let e : at + (i + 1) ≡ suc (at + i) = omega arith in
+      record {
+        few = s .few;
+        fits = omega (arith, s .fits, length-set cells (at + i) (getD numbers i 0));
+        rest = rw (e, add-one i) (rw (drop-cons numbers i 0 h) at (s .rest));
+        room = length-set cells (at + i) (getD numbers i 0) ∙ s .room;
+      }
 
-  first : (m p : ℕ) → p ≡ k + m → m < length a → getD both p 0 ≡ getD a m 0
-  unfolding both
-  first m p q h = store-below k j p b (storeAt k 0 a l) (omega arith) ∙ store-at k 0 m p a l (omega arith) h (omega arith)
+  pub store-end : length numbers ≤ i → cells ≡ sets cells₀ at numbers
+  store-end h = rw (drop-of-length-le numbers h) at (s .rest)
 
-  second : (m p : ℕ) → p ≡ k + (j + m) → m < length b → getD both p 0 ≡ getD b m 0
-  unfolding both
-  second m p q h = store-at k j m p b (storeAt k 0 a l) q h (omega (arith, store-length k 0 a l))
+-- ---- rows of any width
 
-  before : (p : ℕ) → p < k → getD both p 0 ≡ getD l p 0
-  unfolding both
-  before p h = store-below k j p b (storeAt k 0 a l) (omega arith) ∙ store-below k 0 p a l (omega arith)
+-- the numbers of a row, as the code takes them
+abbrev pub part : ℕ → List ℕ → ℕ → List ℕ
+part w l i = take (w * i + w - w * i) (drop (w * i) l)
 
-pub cells-length : {A : Type 0} (f : ℕ → A) (i k : ℕ) → length (cells f i k) ≡ k
-cells-length f i zero = refl
-cells-length f i (suc k) = ap suc (cells-length f (suc i) k)
+part-is : (w : ℕ) (l : List ℕ) (i : ℕ) → part w l i ≡ cellsAt w l i
+part-is w l i = let e : w * i + w - w * i ≡ w = omega arith in rw e
+
+-- what stands before a run of stores, and after it
+before : (ws l : List ℕ) (k n w : ℕ) → n + w ≤ k → take w (drop n (sets l k ws)) ≡ take w (drop n l)
+before [] l k n w h = refl
+before (x ∷ ws) l k n w h =
+    let e : k ≡ n + (k - n) = omega arith in
+    before ws (set l k x) (suc k) n w (omega arith)
+    ∙ ap (λ (p : ℕ). take w (drop n (set l p x))) e ∙ ap (take w) (drop-set-add n l (k - n) x) ∙ take-set-le w (drop n l) (k - n) x (omega arith)
+
+after : (ws l : List ℕ) (k n : ℕ) → k + length ws ≤ n → drop n (sets l k ws) ≡ drop n l
+after [] l k n h = refl
+after (x ∷ ws) l k n h = after ws (set l k x) (suc k) n (omega arith) ∙ drop-set-lt n l k x (omega arith)
+
+module _ (w : ℕ) (l : List ℕ) (i : ℕ) (ws : List ℕ) (e : length ws ≡ w) where
+  -- what was put is read
+  pub cells-put : w * i + w ≤ length l → cellsAt w (stored w l i ws) i ≡ ws
+  cells-put h =
+      let k : ℕ = w * i in
+      let r : List ℕ = drop (k + length ws) l in
+      let p : length (take k l) ≡ k = length-take-le k l (omega arith) in
+      ap (λ (x : List ℕ). take w (drop k x)) (sets-eq ws l k (omega arith))
+      ∙ ap (take w) (drop-append-le k (take k l ++ ws) r (omega (arith, length-append (take k l) ws, p)))
+      ∙ ap (λ (x : List ℕ). take w (x ++ r)) (drop-at (take k l) ws k p)
+      ∙ take-at ws r w e
+
+  -- other rows stay
+  pub cells-stay : (j : ℕ) → (j ≡ i → ⊥) → cellsAt w (stored w l i ws) j ≡ cellsAt w l j
+  cells-stay j n = look (ltb j i) refl
+    where
+      look : (t : Bool) → ltb j i ≡ t → cellsAt w (stored w l i ws) j ≡ cellsAt w l j
+      look true q = before ws l (w * i) (w * j) w (omega (arith, mul-suc w j, mul-le-mul-left w (ltb-true j i q)))
+      look false q =
+          let k : i < j = omega (arith, ltb-false j i q, n) in
+          ap (take w) (after ws l (w * i) (w * j) (omega (arith, mul-suc w i, mul-le-mul-left w k)))
+
+-- x is what the numbers ws say: then it is one more of the rows that `from` reads
+module _ {A : Type 0} (w : ℕ) (from : List ℕ → A) (l : List ℕ) (i : ℕ) (ws : List ℕ) (e : length ws ≡ w) (h : w * i + w ≤ length l) where
+  pub one-more : (x : A) → from ws ≡ x → cells (λ j. from (cellsAt w (stored w l i ws) j)) 0 (i + 1) ≡ cells (λ j. from (cellsAt w l j)) 0 i ++ (x ∷ [])
+  one-more x q =
+      let f : ℕ → A = λ j. from (cellsAt w (stored w l i ws) j) in
+      let z : f (0 + i) ≡ x = ap f (let e : 0 + i ≡ i = omega arith in e) ∙ ap from (cells-put w l i ws e h) ∙ q in
+      ap (cells f 0) (add-one i) ∙ cells-last f 0 i ∙ ap (λ (y : A). cells f 0 i ++ (y ∷ [])) z
+      ∙ ap (λ (y : List A). y ++ (x ∷ [])) (cells-same f (λ j. from (cellsAt w l j)) 0 i (λ j p. ap from (cells-stay w l i ws e j (λ s. omega arith))))
+
+-- ---- a measured span
+
+pub row-read : (r : Row) → ByteFields r → rowFrom (numbersOf r) ≡ r
+row-read r b =
+    let e : r .width % 65536 + 65536 * (r .width / 65536) ≡ r .width = omega (arith, div-add-mod (r .width) 65536) in
+    rw (mod-eq-of-lt (b .line), mod-eq-of-lt (b .fault), e)
+
+pub rows-put : (l : List ℕ) (i : ℕ) (r : Row) → RowRoom (i + 1) l → ByteFields r → rowsOf (putRow l i r) (i + 1) ≡ rowsOf l i ++ (r ∷ [])
+unfolding rowsOf rowAt putRow
+rows-put l i r h b = one-more rowWidth rowFrom l i (numbersOf r) refl (omega arith) r (row-read r b)
+
+pub row-is : (l : List ℕ) (i w : ℕ) (r : Row) → r ≡ rowWith (part rowWidth l i) w → w ≡ getD (part rowWidth l i) 17 0 + 65536 * getD (part rowWidth l i) 18 0
+    → r ≡ rowAt l i
+unfolding rowAt
+row-is l i w r p q = p ∙ ap (rowWith (part rowWidth l i)) q ∙ ap rowFrom (part-is rowWidth l i)
+
+pub row-was-put : (l : List ℕ) (i : ℕ) (r : Row) (l′ ws : List ℕ) → l′ ≡ sets l (rowWidth * i) ws → ws ≡ numbersOf r → ByteFields r → RowPut l i r l′
+unfolding putRow
+row-was-put l i r l′ ws e q b = record { put = e ∙ ap (sets l (rowWidth * i)) q; bytes = b; room = ap length e ∙ length-sets l (rowWidth * i) ws }
+
+-- ---- a record
+
+pub spans-put : (l : List ℕ) (i : ℕ) (s : Span) → SpanRoom (i + 1) l → spansOf (putSpan l i s) (i + 1) ≡ spansOf l i ++ (s ∷ [])
+unfolding spansOf spanAt putSpan
+spans-put l i s h = one-more spanWidth spanFrom l i (spanNumbers s) refl (omega arith) s refl
+
+pub span-is : (l : List ℕ) (i : ℕ) (s : Span) → s ≡ spanFrom (part spanWidth l i) → s ≡ spanAt l i
+unfolding spanAt
+span-is l i s p = p ∙ ap spanFrom (part-is spanWidth l i)
+
+pub span-was-put : (l l′ : List ℕ) (i : ℕ) (s : Span) → l′ ≡ sets l (spanWidth * i) (spanNumbers s) → SpanPut l i s l′
+unfolding putSpan
+span-was-put l l′ i s e = record { put = e; room = ap length e ∙ length-sets l (spanWidth * i) (spanNumbers s) }
 
 pub spans-length : (l : List ℕ) (n : ℕ) → length (spansOf l n) ≡ n
 unfolding spansOf
 spans-length l n = cells-length (spanAt l) 0 n
 
--- ---- rows
+-- ---- faults
 
-pub row-is : (l : List ℕ) (i w : ℕ) → w ≡ getD l (19 * i + 17) 0 + 65536 * getD l (19 * i + 18) 0 → rowWith l i w ≡ rowAt l i
-unfolding rowAt
-row-is l i w e = ap (rowWith l i) e
-
-pub byte-small : (n : ℕ) → n % 256 < 256
-byte-small n = mod-lt n (omega arith)
-
-pub row-stored : (l a b : List ℕ) (i : ℕ) (r : Row) → a ≡ storeAt (19 * i) 0 (entryHead r) l → b ≡ storeAt (19 * i) 9 (entryTail r) a → (b ≡ putRow l i r) × (length b ≡ length l)
-unfolding putRow
-row-stored l a b i r e f = (
-  f ∙ ap (storeAt (19 * i) 9 (entryTail r)) e,
-  ap (λ (x : List ℕ). length x) f ∙ store-length (19 * i) 9 (entryTail r) a ∙ ap (λ (x : List ℕ). length x) e ∙ store-length (19 * i) 0 (entryHead r) l,
-)
-
-pub span-stored : (l a b : List ℕ) (i : ℕ) (s : Span) → a ≡ storeAt (15 * i) 0 (spanHead s) l → b ≡ storeAt (15 * i) 8 (spanTail s) a → (b ≡ putSpan l i s) × (length b ≡ length l)
-unfolding putSpan
-span-stored l a b i s e f = (
-  f ∙ ap (storeAt (15 * i) 8 (spanTail s)) e,
-  ap (λ (x : List ℕ). length x) f ∙ store-length (15 * i) 8 (spanTail s) a ∙ ap (λ (x : List ℕ). length x) e ∙ store-length (15 * i) 0 (spanHead s) l,
-)
-
--- a row that was stored, and those before it
-module _ (l : List ℕ) (i : ℕ) (r : Row) (h : 19 * i + 19 ≤ length l) where
-  room : 19 * i + (9 + length (entryTail r)) ≤ length l
-  room = omega arith
-
-  head : (m p : ℕ) → p ≡ 19 * i + m → m < 9 → getD (putRow l i r) p 0 ≡ getD (entryHead r) m 0
-  unfolding putRow both
-  head m p e k = first (19 * i) 9 (entryHead r) (entryTail r) l refl room m p e k
-
-  tail : (m p : ℕ) → p ≡ 19 * i + (9 + m) → m < 10 → getD (putRow l i r) p 0 ≡ getD (entryTail r) m 0
-  unfolding putRow both
-  tail m p e k = second (19 * i) 9 (entryHead r) (entryTail r) l refl room m p e k
-
-  past : (p : ℕ) → p < 19 * i → getD (putRow l i r) p 0 ≡ getD l p 0
-  unfolding putRow both
-  past p k = before (19 * i) 9 (entryHead r) (entryTail r) l refl room p k
-
-  pub row-same : r .line < 256 → rowAt (putRow l i r) i ≡ r
-  unfolding rowAt
-  row-same k =
-      rw (
-        head 0 (19 * i) (omega arith) (omega arith),
-        head 1 (19 * i + 1) refl (omega arith),
-        head 2 (19 * i + 2) refl (omega arith),
-        head 3 (19 * i + 3) refl (omega arith),
-        head 4 (19 * i + 4) refl (omega arith),
-        head 5 (19 * i + 5) refl (omega arith),
-        head 6 (19 * i + 6) refl (omega arith),
-        head 7 (19 * i + 7) refl (omega arith),
-        head 8 (19 * i + 8) refl (omega arith),
-        tail 0 (19 * i + 9) refl (omega arith),
-        tail 1 (19 * i + 10) refl (omega arith),
-        tail 2 (19 * i + 11) refl (omega arith),
-        tail 3 (19 * i + 12) refl (omega arith),
-        tail 4 (19 * i + 13) refl (omega arith),
-        tail 5 (19 * i + 14) refl (omega arith),
-        tail 6 (19 * i + 15) refl (omega arith),
-        tail 7 (19 * i + 16) refl (omega arith),
-        tail 8 (19 * i + 17) refl (omega arith),
-        tail 9 (19 * i + 18) refl (omega arith),
-        mod-eq-of-lt k,
-        (let e : r .width % 65536 + 65536 * (r .width / 65536) ≡ r .width = omega (arith, div-add-mod (r .width) 65536) in e),
-      )
-
-  pub row-other : (j : ℕ) → j < i → rowAt (putRow l i r) j ≡ rowAt l j
-  unfolding rowAt
-  row-other j k =
-      rw (
-        past (19 * j) (omega arith),
-        past (19 * j + 1) (omega arith),
-        past (19 * j + 2) (omega arith),
-        past (19 * j + 3) (omega arith),
-        past (19 * j + 4) (omega arith),
-        past (19 * j + 5) (omega arith),
-        past (19 * j + 6) (omega arith),
-        past (19 * j + 7) (omega arith),
-        past (19 * j + 8) (omega arith),
-        past (19 * j + 9) (omega arith),
-        past (19 * j + 10) (omega arith),
-        past (19 * j + 11) (omega arith),
-        past (19 * j + 12) (omega arith),
-        past (19 * j + 13) (omega arith),
-        past (19 * j + 14) (omega arith),
-        past (19 * j + 15) (omega arith),
-        past (19 * j + 16) (omega arith),
-        past (19 * j + 17) (omega arith),
-        past (19 * j + 18) (omega arith),
-      )
-
-  -- one row more
-  pub rows-put : r .line < 256 → rowsOf (putRow l i r) (i + 1) ≡ rowsOf l i ++ (r ∷ [])
-  unfolding rowsOf
-  rows-put k =
-      ap (cells (rowAt (putRow l i r)) 0) (add-one i) ∙ cells-last (rowAt (putRow l i r)) 0 i
-      ∙ ap (λ (x : Row). cells (rowAt (putRow l i r)) 0 i ++ (x ∷ [])) (ap (rowAt (putRow l i r)) (let e : 0 + i ≡ i = omega arith in e) ∙ row-same k)
-      ∙ ap (λ (x : List Row). x ++ (r ∷ [])) (cells-same (rowAt (putRow l i r)) (rowAt l) 0 i (λ j q. row-other j (omega arith)))
-
-module _ (l : List ℕ) (i : ℕ) (s : Span) (h : 15 * i + 15 ≤ length l) where
-  span-room : 15 * i + (8 + length (spanTail s)) ≤ length l
-  span-room = omega arith
-
-  span-head : (m p : ℕ) → p ≡ 15 * i + m → m < 8 → getD (putSpan l i s) p 0 ≡ getD (spanHead s) m 0
-  unfolding putSpan both
-  span-head m p e k = first (15 * i) 8 (spanHead s) (spanTail s) l refl span-room m p e k
-
-  span-tail : (m p : ℕ) → p ≡ 15 * i + (8 + m) → m < 7 → getD (putSpan l i s) p 0 ≡ getD (spanTail s) m 0
-  unfolding putSpan both
-  span-tail m p e k = second (15 * i) 8 (spanHead s) (spanTail s) l refl span-room m p e k
-
-  span-past : (p : ℕ) → p < 15 * i → getD (putSpan l i s) p 0 ≡ getD l p 0
-  unfolding putSpan both
-  span-past p k = before (15 * i) 8 (spanHead s) (spanTail s) l refl span-room p k
-
-  span-same : spanAt (putSpan l i s) i ≡ s
-  unfolding spanAt
-  span-same =
-      rw (
-        span-head 0 (15 * i) (omega arith) (omega arith),
-        span-head 1 (15 * i + 1) refl (omega arith),
-        span-head 2 (15 * i + 2) refl (omega arith),
-        span-head 3 (15 * i + 3) refl (omega arith),
-        span-head 4 (15 * i + 4) refl (omega arith),
-        span-head 5 (15 * i + 5) refl (omega arith),
-        span-head 6 (15 * i + 6) refl (omega arith),
-        span-head 7 (15 * i + 7) refl (omega arith),
-        span-tail 0 (15 * i + 8) refl (omega arith),
-        span-tail 1 (15 * i + 9) refl (omega arith),
-        span-tail 2 (15 * i + 10) refl (omega arith),
-        span-tail 3 (15 * i + 11) refl (omega arith),
-        span-tail 4 (15 * i + 12) refl (omega arith),
-        span-tail 5 (15 * i + 13) refl (omega arith),
-        span-tail 6 (15 * i + 14) refl (omega arith),
-      )
-
-  span-other : (j : ℕ) → j < i → spanAt (putSpan l i s) j ≡ spanAt l j
-  unfolding spanAt
-  span-other j k =
-      rw (
-        span-past (15 * j) (omega arith),
-        span-past (15 * j + 1) (omega arith),
-        span-past (15 * j + 2) (omega arith),
-        span-past (15 * j + 3) (omega arith),
-        span-past (15 * j + 4) (omega arith),
-        span-past (15 * j + 5) (omega arith),
-        span-past (15 * j + 6) (omega arith),
-        span-past (15 * j + 7) (omega arith),
-        span-past (15 * j + 8) (omega arith),
-        span-past (15 * j + 9) (omega arith),
-        span-past (15 * j + 10) (omega arith),
-        span-past (15 * j + 11) (omega arith),
-        span-past (15 * j + 12) (omega arith),
-        span-past (15 * j + 13) (omega arith),
-        span-past (15 * j + 14) (omega arith),
-      )
-
-  pub spans-put : spansOf (putSpan l i s) (i + 1) ≡ spansOf l i ++ (s ∷ [])
-  unfolding spansOf
-  spans-put =
-      ap (cells (spanAt (putSpan l i s)) 0) (add-one i) ∙ cells-last (spanAt (putSpan l i s)) 0 i
-      ∙ ap (λ (x : Span). cells (spanAt (putSpan l i s)) 0 i ++ (x ∷ [])) (ap (spanAt (putSpan l i s)) (let e : 0 + i ≡ i = omega arith in e) ∙ span-same)
-      ∙ ap (λ (x : List Span). x ++ (s ∷ [])) (cells-same (spanAt (putSpan l i s)) (spanAt l) 0 i (λ j q. span-other j (omega arith)))
+pub earlier-is : (a b : Fault) → faultOf (earlierOf a b .number) (earlierOf a b .detail)
+    ≡ orElse (faultOf (a .number) (a .detail)) (faultOf (b .number) (b .detail))
+unfolding orElse
+earlier-is a b = look (eqb (a .number) 0) refl
+  where
+    look : (t : Bool) → eqb (a .number) 0 ≡ t
+        → faultOf (pick t b a .number) (pick t b a .detail) ≡ orElse (pick t none (some (a .number, a .detail))) (faultOf (b .number) (b .detail))
+    look true q = refl
+    look false q = rw q

@@ -8,6 +8,7 @@ use Rattle.value.specs.declared.OptNum.{OptNum}
 use Rattle.value.specs.declared.OptNum.the-variants.{Some, None}
 use Rattle.layout.specs.declared.Entry.{Entry}
 use Rattle.layout.specs.Types.{given, Meter}
+use Rattle.rows.specs.declared.Fault.{Fault}
 use Rattle.rows.specs.declared.Gauge.{Gauge}
 use Rattle.rows.specs.declared.Row.{Row}
 
@@ -67,12 +68,16 @@ rowOf m e = rowBy e (gaugeOf m e)
 abbrev pub faultOf : ℕ → ℕ → Option (ℕ × ℕ)
 faultOf n d = pick (eqb n 0) none (some (n, d))
 
+-- the first of two faults
+abbrev pub earlierOf : Fault → Fault → Fault
+earlierOf a b = pick (eqb (a .number) 0) b a
+
 -- of 10 to 12 the faults of a font: 10 and 11
 abbrev pub fontNumber : ℕ → ℕ
 fontNumber n = pick (eqb n 12) 0 n
 
--- what a meter keeps: a span's spacing is its [sc] value where one holds; a fault has a number; a font's fault comes first
-pub record Proper (m : Meter) : Type 0 where
+-- rows tell what a meter says: a span's spacing is its [sc] value where one holds; a fault has a number; a font's fault comes first
+pub record RowTells (m : Meter) : Type 0 where
   pub spaced : (e : Entry) (n : ℕ) → e .state .«char_spacing» ≡ Some n → m .spacing e ≡ n
   pub whole : (e : Entry) → faultOf (faultNumber (m .fault e)) (faultDetail (m .fault e)) ≡ m .fault e
   pub font : (e : Entry) → faultOf (fontNumber (faultNumber (m .fault e))) (faultDetail (m .fault e)) ≡ m .fontFault e

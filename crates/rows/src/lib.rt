@@ -1,8 +1,10 @@
 // Measured entries and placed spans as rows of numbers in a lent slice.
 ghost use mathlib.Core.Path.{_≡_};
-ghost use Prim.Native.Nat.{_+_, _*_, _≤_, _<_};
+ghost use Prim.Native.Nat.{_+_, _*_, _/_, _%_, _≤_, _<_};
 ghost use lib.ListN.{length};
-ghost use Rattle.rows.specs.Rows.{storeAt, entryHead, entryTail, rowAt, putRow, spanHead, spanTail, spanAt, putSpan};
+ghost use lib.Seq.{sets};
+ghost use Rattle.rows.specs.Measured.{earlierOf};
+ghost use Rattle.rows.specs.Rows.{rowWidth, RowRoom, numbersOf, rowWith, rowAt, ByteFields, RowPut, spanWidth, SpanRoom, spanFrom, spanAt, SpanPut};
 use layout::Span;
 
 // An entry of a pass with its measures. kind to code: as in its record. just_page to span: of the state it was read in.
@@ -16,7 +18,7 @@ pub struct Row {
     pub just_page: u16,
     pub just_line: u16,
     pub font: u16,
-    pub line: u16,
+    pub line: u8,
     pub span: u16,
     pub fixed: u16,
     pub spacing: u16,
@@ -24,7 +26,7 @@ pub struct Row {
     pub lead: u16,
     pub height: u16,
     pub font_spacing: u16,
-    pub fault: u16,
+    pub fault: u8,
     pub detail: u16,
     pub width: u32,
 }
@@ -35,9 +37,30 @@ pub struct Gauge {
     pub height: u16,
     pub font_spacing: u16,
     pub width: u32,
-    pub fault: u16,
+    pub fault: u8,
     pub detail: u16,
 }
+
+// Number and detail of refusal 10, 11 or 12, or zeros.
+pub struct Fault {
+    pub number: u8,
+    pub detail: u16,
+}
+
+// The first of two faults.
+pub fn earlier(a: Fault, b: Fault) -> Fault
+    ensures { λ r. ⌜ r ≡ earlierOf a b ⌝ }
+{
+    if a.number == 0 {
+        return b;
+    }
+    a
+}
+
+// The numbers of a row, and of a record.
+pub const ROW_WIDTH: usize = 19;
+
+pub const SPAN_WIDTH: usize = 15;
 
 // A number from its two halves.
 fn whole(low: u16, high: u16) -> u32
@@ -46,139 +69,162 @@ fn whole(low: u16, high: u16) -> u32
     low as u32 + 65536 * (high as u32)
 }
 
-// The row at a place; its line number is cut to 8 bits, whatever the slice holds.
-pub fn row_at(rows: &[u16], i: usize) -> Row
-    requires { ⌜ (i < 2048) × (19 * i + 19 ≤ length (now rows)) ⌝ }
-    ensures { λ r. ⌜ (r ≡ rowAt (now (rows .entry)) i) × (r .line < 256) ⌝ }
+// Its lower half, and its upper half.
+fn low_half(w: u32) -> u16
+    ensures { λ r. ⌜ r ≡ w % 65536 ⌝ }
 {
-    let k = 19 * i;
-    let width = whole(rows[k + 17], rows[k + 18]);
+    (w % 65536) as u16
+}
+
+fn high_half(w: u32) -> u16
+    ensures { λ r. ⌜ r ≡ w / 65536 ⌝ }
+{
+    (w / 65536) as u16
+}
+
+// The numbers are stored from a place on.
+fn store(cells: &mut [u16], at: usize, numbers: &[u16])
+    requires { ⌜ (at < 65536) × (at + length (now numbers) ≤ length (now cells)) ⌝ }
+    ensures { λ _. ⌜ now (cells .exit) ≡ sets (now (cells .entry)) at (now (numbers .entry)) ⌝ }
+{
+    let mut i: usize = 0;
+    while i < numbers.len() {
+        cells[at + i] = numbers[i];
+        i += 1;
+    }
+}
+
+// The row that numbers are, with its width; line number and fault are cut to 8 bits, whatever the slice holds.
+fn row_from(n: &[u16], width: u32) -> Row
+    requires { ⌜ length (now n) ≡ rowWidth ⌝ }
+    ensures { λ r. ⌜ r ≡ rowWith (now (n .entry)) width ⌝ }
+{
     Row {
-        kind: rows[k],
-        start: rows[k + 1],
-        len: rows[k + 2],
-        code: rows[k + 3],
-        just_page: rows[k + 4],
-        just_line: rows[k + 5],
-        font: rows[k + 6],
-        line: rows[k + 7] % 256,
-        span: rows[k + 8],
-        fixed: rows[k + 9],
-        spacing: rows[k + 10],
-        led: rows[k + 11],
-        lead: rows[k + 12],
-        height: rows[k + 13],
-        font_spacing: rows[k + 14],
-        fault: rows[k + 15],
-        detail: rows[k + 16],
+        kind: n[0],
+        start: n[1],
+        len: n[2],
+        code: n[3],
+        just_page: n[4],
+        just_line: n[5],
+        font: n[6],
+        line: (n[7] % 256) as u8,
+        span: n[8],
+        fixed: n[9],
+        spacing: n[10],
+        led: n[11],
+        lead: n[12],
+        height: n[13],
+        font_spacing: n[14],
+        fault: (n[15] % 256) as u8,
+        detail: n[16],
         width,
     }
 }
 
-fn put_head(rows: &mut [u16], k: usize, r: Row)
-    requires { ⌜ (k < 65536) × (k + 9 ≤ length (now rows)) ⌝ }
-    ensures { λ _. ⌜ now (rows .exit) ≡ storeAt k 0 (entryHead r) (now (rows .entry)) ⌝ }
+// The row at a place.
+pub fn row_at(rows: &[u16], i: usize) -> Row
+    requires { ⌜ (i < 2048) × RowRoom (i + 1) (now rows) ⌝ }
+    ensures { λ r. ⌜ r ≡ rowAt (now (rows .entry)) i ⌝ }
 {
-    rows[k] = r.kind;
-    rows[k + 1] = r.start;
-    rows[k + 2] = r.len;
-    rows[k + 3] = r.code;
-    rows[k + 4] = r.just_page;
-    rows[k + 5] = r.just_line;
-    rows[k + 6] = r.font;
-    rows[k + 7] = r.line;
-    rows[k + 8] = r.span;
+    let k = ROW_WIDTH * i;
+    let n = &rows[k..k + ROW_WIDTH];
+    row_from(n, whole(n[17], n[18]))
 }
 
-fn put_tail(rows: &mut [u16], k: usize, r: Row)
-    requires { ⌜ (k < 65536) × (k + 19 ≤ length (now rows)) ⌝ }
-    ensures { λ _. ⌜ now (rows .exit) ≡ storeAt k 9 (entryTail r) (now (rows .entry)) ⌝ }
+// A row as numbers.
+fn numbers_of(r: Row) -> [u16; ROW_WIDTH]
+    ensures { λ l. ⌜ (l ≡ numbersOf r) × ByteFields r ⌝ }
 {
-    rows[k + 9] = r.fixed;
-    rows[k + 10] = r.spacing;
-    rows[k + 11] = r.led;
-    rows[k + 12] = r.lead;
-    rows[k + 13] = r.height;
-    rows[k + 14] = r.font_spacing;
-    rows[k + 15] = r.fault;
-    rows[k + 16] = r.detail;
-    let w = r.width;
-    let low = w % 65536;
-    let high = w / 65536;
-    rows[k + 17] = low as u16;
-    rows[k + 18] = high as u16;
+    let line = base::wide16(r.line);
+    let fault = base::wide16(r.fault);
+    let low = low_half(r.width);
+    let high = high_half(r.width);
+    [
+        r.kind,
+        r.start,
+        r.len,
+        r.code,
+        r.just_page,
+        r.just_line,
+        r.font,
+        line,
+        r.span,
+        r.fixed,
+        r.spacing,
+        r.led,
+        r.lead,
+        r.height,
+        r.font_spacing,
+        fault,
+        r.detail,
+        low,
+        high,
+    ]
 }
 
 // A row is stored at a place.
 pub fn put_row(rows: &mut [u16], i: usize, r: Row)
-    requires { ⌜ (i < 2048) × (19 * i + 19 ≤ length (now rows)) ⌝ }
-    ensures { λ _. ⌜ (now (rows .exit) ≡ putRow (now (rows .entry)) i r) × (length (now (rows .exit)) ≡ length (now (rows .entry))) ⌝ }
+    requires { ⌜ (i < 2048) × RowRoom (i + 1) (now rows) ⌝ }
+    ensures { λ _. ⌜ RowPut (now (rows .entry)) i r (now (rows .exit)) ⌝ }
 {
-    let k = 19 * i;
-    put_head(rows, k, r);
-    put_tail(rows, k, r);
+    let numbers = numbers_of(r);
+    store(rows, ROW_WIDTH * i, &numbers);
 }
 
-// The span at a place.
-pub fn span_at(out: &[u16], i: usize) -> Span
-    requires { ⌜ (i < 2048) × (15 * i + 15 ≤ length (now out)) ⌝ }
-    ensures { λ r. ⌜ r ≡ spanAt (now (out .entry)) i ⌝ }
+// The record that numbers are.
+fn span_from(n: &[u16]) -> Span
+    requires { ⌜ length (now n) ≡ spanWidth ⌝ }
+    ensures { λ r. ⌜ r ≡ spanFrom (now (n .entry)) ⌝ }
 {
-    let k = 15 * i;
     Span {
-        kind: out[k],
-        start: out[k + 1],
-        length: out[k + 2],
-        code: out[k + 3],
-        x: out[k + 4],
-        y: out[k + 5],
-        width: out[k + 6],
-        height: out[k + 7],
-        font: out[k + 8],
-        line: out[k + 9],
-        span: out[k + 10],
-        rect_x: out[k + 11],
-        rect_y: out[k + 12],
-        rect_width: out[k + 13],
-        rect_height: out[k + 14],
+        kind: n[0],
+        start: n[1],
+        length: n[2],
+        code: n[3],
+        x: n[4],
+        y: n[5],
+        width: n[6],
+        height: n[7],
+        font: n[8],
+        line: n[9],
+        span: n[10],
+        rect_x: n[11],
+        rect_y: n[12],
+        rect_width: n[13],
+        rect_height: n[14],
     }
 }
 
-// The first eight numbers of a span.
-fn put_place(out: &mut [u16], k: usize, s: Span)
-    requires { ⌜ (k < 65536) × (k + 8 ≤ length (now out)) ⌝ }
-    ensures { λ _. ⌜ now (out .exit) ≡ storeAt k 0 (spanHead s) (now (out .entry)) ⌝ }
+// The record at a place.
+pub fn span_at(out: &[u16], i: usize) -> Span
+    requires { ⌜ (i < 2048) × (spanWidth * i + spanWidth ≤ length (now out)) ⌝ }
+    ensures { λ r. ⌜ r ≡ spanAt (now (out .entry)) i ⌝ }
 {
-    out[k] = s.kind;
-    out[k + 1] = s.start;
-    out[k + 2] = s.length;
-    out[k + 3] = s.code;
-    out[k + 4] = s.x;
-    out[k + 5] = s.y;
-    out[k + 6] = s.width;
-    out[k + 7] = s.height;
+    let k = SPAN_WIDTH * i;
+    span_from(&out[k..k + SPAN_WIDTH])
 }
 
-// The other seven.
-fn put_rect(out: &mut [u16], k: usize, s: Span)
-    requires { ⌜ (k < 65536) × (k + 15 ≤ length (now out)) ⌝ }
-    ensures { λ _. ⌜ now (out .exit) ≡ storeAt k 8 (spanTail s) (now (out .entry)) ⌝ }
-{
-    out[k + 8] = s.font;
-    out[k + 9] = s.line;
-    out[k + 10] = s.span;
-    out[k + 11] = s.rect_x;
-    out[k + 12] = s.rect_y;
-    out[k + 13] = s.rect_width;
-    out[k + 14] = s.rect_height;
-}
-
-// A span is stored at a place.
+// A record is stored at a place.
 pub fn put_span(out: &mut [u16], i: usize, s: Span)
-    requires { ⌜ (i < 2048) × (15 * i + 15 ≤ length (now out)) ⌝ }
-    ensures { λ _. ⌜ (now (out .exit) ≡ putSpan (now (out .entry)) i s) × (length (now (out .exit)) ≡ length (now (out .entry))) ⌝ }
+    requires { ⌜ (i < 2048) × SpanRoom (i + 1) (now out) ⌝ }
+    ensures { λ _. ⌜ SpanPut (now (out .entry)) i s (now (out .exit)) ⌝ }
 {
-    let k = 15 * i;
-    put_place(out, k, s);
-    put_rect(out, k, s);
+    let numbers = [
+        s.kind,
+        s.start,
+        s.length,
+        s.code,
+        s.x,
+        s.y,
+        s.width,
+        s.height,
+        s.font,
+        s.line,
+        s.span,
+        s.rect_x,
+        s.rect_y,
+        s.rect_width,
+        s.rect_height,
+    ];
+    store(out, SPAN_WIDTH * i, &numbers);
 }

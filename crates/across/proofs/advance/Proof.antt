@@ -1,5 +1,5 @@
 use borrow.Author.Needs.{needs}
-use Rattle.across.proofs.Laws.{advance-ways}
+use Rattle.across.proofs.Laws.{advance-join, advance-stay}
 use Rattle.across.proofs.advance.Statement.{statement}
 use Rattle.across.proofs.advance.Tie as tie
 
@@ -8,5 +8,5 @@ advance-spec =
     tie.close (tie.spec
     (λ c κs. search needs)  -- matches-span-requires
     (λ c κs. search needs)  -- join-requires
-    (λ c. search (advance-ways, needs) depth 6)  -- returns
-    (λ c. search (advance-ways, needs) depth 6))  -- returns-2
+    (λ c. search advance-join)  -- returns
+    (λ c. search advance-stay))  -- returns-2

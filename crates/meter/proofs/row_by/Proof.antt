@@ -10,8 +10,7 @@ row-by-spec =
     (λ c κs. search needs)  -- wide16-requires-2
     (λ c κs. search needs)  -- wide16-requires-3
     (λ c κs. search needs)  -- wide16-requires-4
-    (λ c κs. search needs)  -- wide16-requires-5
     (λ c κs. search needs)  -- flag-requires
     (λ c κs. search needs)  -- flag-requires-2
     (λ c κs. search needs)  -- given-requires
-    (λ c. (search (row-fields, needs) depth 6, search needs)))  -- returns
+    (λ c. search (row-fields, needs) depth 6))  -- returns

@@ -6,7 +6,11 @@ use Rattle.place.proofs.record_of.Tie as tie
 pub record-of-spec : {M : Type 1} → statement M
 record-of-spec =
     tie.close (tie.spec
-    (λ c. search needs)  -- cast-t7
+    (λ c. search needs)  -- cast-t5
+    (λ c κs. search needs)  -- wide16-requires
+    (λ c. search needs)  -- add-t7
     (λ c. search needs)  -- add-t8
-    (λ c. search needs)  -- add-t9
-    (λ c. let s = c .before .before .before in rw (add-one (s .args .rect .left), add-one (s .args .rect .top))))  -- returns
+    (λ c.
+    let w : tie.After-wide16 = search in
+    let s : tie.Start = search in
+    rw (w .wide16 .ensures .0, add-one (s .args .rect .left), add-one (s .args .rect .top))))  -- returns

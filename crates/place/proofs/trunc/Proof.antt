@@ -1,5 +1,5 @@
-use borrow.Author.Needs.{needs}
 use native.Mathlib.Nat.{div-mul-le-self}
+use borrow.Author.Needs.{needs}
 use Rattle.place.proofs.Laws.{trunc-is}
 use Rattle.place.proofs.trunc.Statement.{statement}
 use Rattle.place.proofs.trunc.Tie as tie
@@ -9,5 +9,5 @@ trunc-spec =
     tie.close (tie.spec
     (λ c κs. search needs)  -- unit-requires
     (λ c. search needs)  -- div-result
-    (λ c. let h = div-mul-le-self (c .before .args .x) (c .unit .result) in search needs)  -- mul-result
-    (λ c. trunc-is (c .before .args .n) (c .before .args .x) _ (c .unit .ensures .0)))  -- returns
+    (λ c. let s : tie.Start = search in let h = div-mul-le-self (s .args .x) (c .unit .result) in search needs)  -- mul-result
+    (λ c. search (trunc-is, div-mul-le-self, needs) depth 6))  -- returns

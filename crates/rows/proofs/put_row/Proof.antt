@@ -1,4 +1,4 @@
-use Rattle.rows.proofs.Laws.{row-stored}
+use Rattle.rows.proofs.Laws.{row-was-put}
 use borrow.Author.Needs.{needs}
 use Rattle.rows.proofs.put_row.Statement.{statement}
 use Rattle.rows.proofs.put_row.Tie as tie
@@ -6,8 +6,9 @@ use Rattle.rows.proofs.put_row.Tie as tie
 pub put-row-spec : {M : Type 1} → statement M
 put-row-spec =
     tie.close (tie.spec
-    (λ c. search needs)  -- mul-k
-    (λ c κs. search needs)  -- put-head-requires
-    (λ c κs. search needs)  -- put-tail-requires
+    (λ c κs. search needs)  -- numbers-of-requires
+    (λ c. search needs)  -- mul-store
+    (λ c. search needs)  -- slice-aggregate-store
+    (λ c κs. search needs)  -- store-requires
     (λ c. search needs)  -- same-length
-    (λ c. row-stored (c .before .before .before .before .before .before .before .before .before .args .rows .now) _ _ (c .before .before .before .before .before .before .before .before .before .args .i) (c .before .before .before .before .before .before .before .before .before .args .r) (c .before .before .before .before .before .before .put-head .ensures) (c .before .before .put-tail .ensures)))  -- returns
+    (λ c. search row-was-put))  -- returns

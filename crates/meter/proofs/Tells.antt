@@ -1,10 +1,9 @@
--- What the layers above use of the fonts' meter.
-use Prim.Native.Nat.{ℕ, zero, suc, _+_, _<_}
-use mathlib.Core.Path.{_≡_, refl, subst}
+-- Rows tell what the fonts' meter says.
+use Prim.Native.Nat.{ℕ}
+use mathlib.Core.Path.{_≡_, refl}
 use mathlib.Core.Option.{Option, none, some}
 use mathlib.Core.Bool.{Bool, true, false}
-use mathlib.Core.List.{List, [], _∷_, map}
-use native.Mathlib.Omega.{arith}
+use mathlib.Core.List.{List}
 use lib.Dec.{eqb}
 use Rattle.base.specs.Pick.{pick}
 use Rattle.value.specs.declared.OptNum.{OptNum}
@@ -16,8 +15,7 @@ use Rattle.measure.specs.declared.Measure.the-variants.{Width, Missing}
 use Rattle.layout.specs.declared.Entry.{Entry}
 use Rattle.layout.specs.Types.{given}
 use Rattle.layout.specs.Fonts.{versionFault, missing, measureIn, fontFaultIn, spacingIn, charFaultAfter, faultIn, meterOf}
-use Rattle.rows.specs.Rows.{cells, rowAt, rowsOf}
-use Rattle.rows.specs.Measured.{faultNumber, faultDetail, faultOf, fontNumber, rowOf, Proper}
+use Rattle.rows.specs.Measured.{faultNumber, faultDetail, faultOf, fontNumber, RowTells}
 use Rattle.meter.specs.Gauges.{fontsIn, meterIn}
 
 -- a span in its font: its fault has one of the numbers 10 to 12, and those of a font are 10 and 11
@@ -26,17 +24,15 @@ module _ (msg : List ℕ) (e : Entry) where
     spaced : (n : ℕ) → e .state .«char_spacing» ≡ Some n → spacingIn msg e o ≡ n
     whole : faultOf (faultNumber (faultIn msg e o)) (faultDetail (faultIn msg e o)) ≡ faultIn msg e o
     font : faultOf (fontNumber (faultNumber (faultIn msg e o))) (faultDetail (faultIn msg e o)) ≡ fontFaultIn msg e o
-    small : faultNumber (faultIn msg e o) < 256
 
   -- by version id and measure
   record Parts (x : Option (ℕ × ℕ)) (y : Option (ℕ × ℕ)) : Type 0 where
     whole : faultOf (faultNumber y) (faultDetail y) ≡ y
     font : faultOf (fontNumber (faultNumber y)) (faultDetail y) ≡ x
-    small : faultNumber y < 256
 
   missing-parts : (m : Measure) → Parts none (missing m)
-  missing-parts (Width w) = record { whole = refl; font = refl; small = omega arith }
-  missing-parts (Missing c) = record { whole = refl; font = refl; small = omega arith }
+  missing-parts (Width w) = record { whole = refl; font = refl }
+  missing-parts (Missing c) = record { whole = refl; font = refl }
 
   version-parts : (v : OptNum) (f : Font) → Parts (versionFault v f) (charFaultAfter msg e (versionFault v f) f)
   version-parts None f = missing-parts (measureIn msg e f)
@@ -44,44 +40,23 @@ module _ (msg : List ℕ) (e : Entry) where
     where
       go : (t : Bool) → Parts (pick t none (some (11, 0))) (charFaultAfter msg e (pick t none (some (11, 0))) f)
       go true = missing-parts (measureIn msg e f)
-      go false = record { whole = refl; font = refl; small = omega arith }
+      go false = record { whole = refl; font = refl }
 
   spacing-none : (cs : OptNum) (n d : ℕ) → cs ≡ Some n → given cs d ≡ n
   spacing-none cs n d p = rw p
 
   right : (o : Option Font) → Right o
-  right none = record { spaced = λ n p. spacing-none (e .state .«char_spacing») n 0 p; whole = refl; font = refl; small = omega arith }
+  right none = record { spaced = λ n p. spacing-none (e .state .«char_spacing») n 0 p; whole = refl; font = refl }
   right (some f) =
       let p : Parts (versionFault (e .state .version) f) (charFaultAfter msg e (versionFault (e .state .version) f) f) = version-parts (e .state .version) f in
-      record { spaced = λ n q. spacing-none (e .state .«char_spacing») n (f .charSpacing) q; whole = p .whole; font = p .font; small = p .small }
+      record { spaced = λ n q. spacing-none (e .state .«char_spacing») n (f .charSpacing) q; whole = p .whole; font = p .font }
 
 module _ (file msg : List ℕ) where
-  pub meter-proper : Proper (meterIn file msg)
+  pub meter-told : RowTells (meterIn file msg)
   unfolding meterIn meterOf
-  meter-proper =
+  meter-told =
       record {
         spaced = λ e n p. (right msg e (fontNumbered (e .state .font) (fontsIn (signFile file)))) .spaced n p;
         whole = λ e. (right msg e (fontNumbered (e .state .font) (fontsIn (signFile file)))) .whole;
         font = λ e. (right msg e (fontNumbered (e .state .font) (fontsIn (signFile file)))) .font;
       }
-
-  fault-small : (e : Entry) → (rowOf (meterIn file msg) e) .fault < 256
-  unfolding meterIn meterOf
-  fault-small e = (right msg e (fontNumbered (e .state .font) (fontsIn (signFile file)))) .small
-
-  -- rows that are those of entries have small fault numbers
-  small-from : (l : List ℕ) (i k : ℕ) (es : List Entry) → cells (rowAt l) i k ≡ map (rowOf (meterIn file msg)) es → (j : ℕ) → j < k → (rowAt l (i + j)) .fault < 256
-  small-from l i zero es q j h = absurd (omega arith)
-  small-from l i (suc k) [] q j h = absurd (let z : _≡_ {A = ℕ} 0 1 = cc in omega arith)
-  small-from l i (suc k) (e ∷ es) q zero h =
-      let r : rowAt l i ≡ rowOf (meterIn file msg) e = cc in
-      let z : i + 0 ≡ i = omega arith in
-      rw (z, r) (fault-small e)
-  small-from l i (suc k) (e ∷ es) q (suc j) h =
-      let r : cells (rowAt l) (suc i) k ≡ map (rowOf (meterIn file msg)) es = cc in
-      let z : i + suc j ≡ suc i + j = omega arith in
-      rw z (small-from l (suc i) k es r j (omega arith))
-
-  pub rows-small : (l : List ℕ) (n : ℕ) (es : List Entry) → rowsOf l n ≡ map (rowOf (meterIn file msg)) es → (i : ℕ) → i < n → (rowAt l i) .fault < 256
-  unfolding rowsOf
-  rows-small l n es q i h = subst (λ (j : ℕ). (rowAt l j) .fault < 256) (let z : 0 + i ≡ i = omega arith in z) (small-from l 0 n es q i h)
