@@ -22,7 +22,7 @@ use Rattle.records.specs.declared.Config.{Config}
 use Rattle.layout.specs.declared.Rect.{Rect}
 use Rattle.layout.specs.declared.RenderState.{RenderState}
 use Rattle.layout.specs.declared.Entry.{Entry}
-use Rattle.layout.specs.Types.{Item, given}
+use Rattle.layout.specs.Types.{Item, placeOf, given}
 use Rattle.layout.specs.Demand.{In, here, there, Role, text, hexadecimal, rectangle, pageJust, newPage as pageRole, other, roleOf, roleIn, Reads, rectAfter, justAfter, printedBy}
 use Rattle.layout.specs.declared.Step.{Step}
 use Rattle.layout.specs.declared.Step.the-variants.{Refuse, Go, Emit, Cut, Turn}
@@ -102,16 +102,16 @@ pub record SpanOf (st : RenderState) (it : Item) (e : Entry) : Type 0 where
   pub spoken : Spoken e (roleIn (it .says))
 
 -- what is known of a step; the rectangle stays within a pass
-abbrev pub Fair : Config → RenderState → Item → Step → Type 0
-Fair s st it (Refuse r) = RefusedIn (it .start) (it .len) r
-Fair s st it (Go st′ b) = Taken s st it st′ [] × (st′ .rect ≡ st .rect)
-Fair s st it (Emit e st′ b) = Taken s st it st′ (e ∷ []) × (st′ .rect ≡ st .rect) × SpanOf st it e
-Fair s st it (Cut st′) = Taken s st it st′ [] × (rectFits s (st′ .rect) ≡ true)
-Fair s st it Turn = Taken s st it (newPage s st) [] × (roleIn (it .says) ≡ pageRole)
+abbrev pub StepWithin : Config → RenderState → Item → Step → Type 0
+StepWithin s st it (Refuse r) = RefusedIn (it .start) (it .len) r
+StepWithin s st it (Go st′ b) = Taken s st it st′ [] × (st′ .rect ≡ st .rect)
+StepWithin s st it (Emit e st′ b) = Taken s st it st′ (e ∷ []) × (st′ .rect ≡ st .rect) × SpanOf st it e
+StepWithin s st it (Cut st′) = Taken s st it st′ [] × (rectFits s (st′ .rect) ≡ true)
+StepWithin s st it Turn = Taken s st it (newPage s st) [] × (roleIn (it .says) ≡ pageRole)
 
 -- the same with the value apart
-abbrev FairVal : Config → RenderState → Item → Value → Step → Type 0
-FairVal s st it v t = Fair s st (record { start = it .start; len = it .len; says = Is v }) t
+abbrev ValueWithin : Config → RenderState → Item → Value → Step → Type 0
+ValueWithin s st it v t = StepWithin s st (record { start = it .start; len = it .len; says = Is v }) t
 
 pick-all : (P : Step → Type 0) (b : Bool) {x y : Step} → (b ≡ true → P x) → (b ≡ false → P y) → P (pick b x y)
 pick-all P true f g = f refl
@@ -138,81 +138,81 @@ just-given (Some k) d n e = go (leb 2 k) (leb k 4) e
     go false u q = absurd (let z : _≡_ {A = ℕ} 0 1 = cc in omega arith)
 
 module _ (s : Config) (st : RenderState) (blank : Bool) (it : Item) where
-  refused : (n : ℕ) → 4 < n → RefusedIn (it .start) (it .len) (refusalAt it n)
+  refused : (n : ℕ) → 4 < n → RefusedIn (it .start) (it .len) (refusalAt (placeOf it) n)
   refused n h = record { late = h; start = refl; length = refl }
 
   -- a value that is nothing to demand 3
-  plain : (v : Value) (st′ : RenderState) → roleOf v ≡ other → st′ .rect ≡ st .rect → st′ .«just_page» ≡ st .«just_page» → FairVal s st it v (Go st′ blank)
+  plain : (v : Value) (st′ : RenderState) → roleOf v ≡ other → st′ .rect ≡ st .rect → st′ .«just_page» ≡ st .«just_page» → ValueWithin s st it v (Go st′ blank)
   plain v st′ e r j = (record { reads = tt; prints = rw e; rect = rw e (sym r); just = rw e (sym j) }, r)
 
-  line-just-fair : (j o : OptNum) → FairVal s st it (JustificationLine j) (goIf it o (withJustLine st) blank)
-  line-just-fair j None = refused 6 (omega arith)
-  line-just-fair j (Some n) = plain (JustificationLine j) (withJustLine st n) refl refl refl
+  line-just-within : (j o : OptNum) → ValueWithin s st it (JustificationLine j) (goIf (placeOf it) o (withJustLine st) blank)
+  line-just-within j None = refused 6 (omega arith)
+  line-just-within j (Some n) = plain (JustificationLine j) (withJustLine st n) refl refl refl
 
-  page-just-fair : (j o : OptNum) → justified j (s .«page_just») ≡ o → FairVal s st it (JustificationPage j) (goIf it o (withJustPage st) blank)
-  page-just-fair j None e = refused 6 (omega arith)
-  page-just-fair j (Some n) e = (record { reads = tt; prints = refl; rect = refl; just = just-given j (s .«page_just») n e }, refl)
+  page-just-within : (j o : OptNum) → justified j (s .«page_just») ≡ o → ValueWithin s st it (JustificationPage j) (goIf (placeOf it) o (withJustPage st) blank)
+  page-just-within j None e = refused 6 (omega arith)
+  page-just-within j (Some n) e = (record { reads = tt; prints = refl; rect = refl; just = just-given j (s .«page_just») n e }, refl)
 
-  line-fair : (l : OptNum) (b : Bool) → FairVal s st it (NewLine l) (lineStep it st l b)
-  line-fair l true = (
+  line-within : (l : OptNum) (b : Bool) → ValueWithin s st it (NewLine l) (lineStep (placeOf it) st l b)
+  line-within l true = (
     record { reads = tt; prints = refl; rect = refl; just = refl },
     refl,
     record { state = refl; start = refl; len = omega arith; spoken = λ q. omega arith },
   )
-  line-fair l false = (record { reads = tt; prints = refl; rect = refl; just = refl }, refl)
+  line-within l false = (record { reads = tt; prints = refl; rect = refl; just = refl }, refl)
 
-  font-fair : (f : OptFont) → FairVal s st it (Font f) (Go (fontStep s st f) blank)
-  font-fair (SomeFont n v) = plain (Font (SomeFont n v)) (withFont st n v) refl refl refl
-  font-fair NoFont = plain (Font NoFont) (withFont st (s .font) None) refl refl refl
+  font-within : (f : OptFont) → ValueWithin s st it (Font f) (Go (fontStep s st f) blank)
+  font-within (SomeFont n v) = plain (Font (SomeFont n v)) (withFont st n v) refl refl refl
+  font-within NoFont = plain (Font NoFont) (withFont st (s .font) None) refl refl refl
 
-  step-fair : (v : Value) → TextIn (it .start) (it .len) (roleOf v) → FairVal s st it v (valueStep s st blank it v)
-  step-fair (ColorBackground c) h = plain (ColorBackground c) st refl refl refl
-  step-fair (ColorForeground c) h = plain (ColorForeground c) st refl refl refl
-  step-fair (ColorRectangle r c) h = plain (ColorRectangle r c) st refl refl refl
-  step-fair (Field n w) h = plain (Field n w) st refl refl refl
-  step-fair (Flash o a b) h = plain (Flash o a b) st refl refl refl
-  step-fair FlashEnd h = plain FlashEnd st refl refl refl
-  step-fair (Font f) h = font-fair f
-  step-fair (Graphic n p) h = plain (Graphic n p) st refl refl refl
-  step-fair (HexadecimalCharacter c) h =
-      pick-all (FairVal s st it (HexadecimalCharacter c)) (surrogate c) (λ _. refused 6 (omega arith))
-      (λ _. pick-all (FairVal s st it (HexadecimalCharacter c)) (ltb (st .span) 255)
+  value-within : (v : Value) → TextIn (it .start) (it .len) (roleOf v) → ValueWithin s st it v (valueStep s st blank (placeOf it) v)
+  value-within (ColorBackground c) h = plain (ColorBackground c) st refl refl refl
+  value-within (ColorForeground c) h = plain (ColorForeground c) st refl refl refl
+  value-within (ColorRectangle r c) h = plain (ColorRectangle r c) st refl refl refl
+  value-within (Field n w) h = plain (Field n w) st refl refl refl
+  value-within (Flash o a b) h = plain (Flash o a b) st refl refl refl
+  value-within FlashEnd h = plain FlashEnd st refl refl refl
+  value-within (Font f) h = font-within f
+  value-within (Graphic n p) h = plain (Graphic n p) st refl refl refl
+  value-within (HexadecimalCharacter c) h =
+      pick-all (ValueWithin s st it (HexadecimalCharacter c)) (surrogate c) (λ _. refused 6 (omega arith))
+      (λ _. pick-all (ValueWithin s st it (HexadecimalCharacter c)) (ltb (st .span) 255)
       (λ _. (
         record { reads = tt; prints = refl; rect = refl; just = refl },
         refl,
         record { state = refl; start = refl; len = le-refl _; spoken = λ q. omega arith },
       ))
       (λ _. refused 8 (omega arith)))
-  step-fair (JustificationLine j) h = line-just-fair j (justified j (s .«line_just»))
-  step-fair (JustificationPage j) h = page-just-fair j (justified j (s .«page_just»)) refl
-  step-fair (ManufacturerSpecific m p) h = plain (ManufacturerSpecific m p) st refl refl refl
-  step-fair (ManufacturerSpecificEnd m p) h = plain (ManufacturerSpecificEnd m p) st refl refl refl
-  step-fair (MovingText m d t) h = plain (MovingText m d t) st refl refl refl
-  step-fair (NewLine l) h =
-      pick-all (FairVal s st it (NewLine l)) (above0 (s .«char_height») (given l 0)) (λ _. refused 6 (omega arith))
-      (λ _. pick-all (FairVal s st it (NewLine l)) (ltb (st .line) 255) (λ _. line-fair l blank) (λ _. refused 8 (omega arith)))
-  step-fair NewPage h = (record { reads = tt; prints = refl; rect = refl; just = refl }, refl)
-  step-fair (PageBackground c) h = plain (PageBackground c) st refl refl refl
-  step-fair (PageTime a b) h = plain (PageTime a b) st refl refl refl
-  step-fair (SpacingCharacter c) h =
-      pick-all (FairVal s st it (SpacingCharacter c)) (above0 (s .«char_width») c) (λ _. refused 6 (omega arith))
+  value-within (JustificationLine j) h = line-just-within j (justified j (s .«line_just»))
+  value-within (JustificationPage j) h = page-just-within j (justified j (s .«page_just»)) refl
+  value-within (ManufacturerSpecific m p) h = plain (ManufacturerSpecific m p) st refl refl refl
+  value-within (ManufacturerSpecificEnd m p) h = plain (ManufacturerSpecificEnd m p) st refl refl refl
+  value-within (MovingText m d t) h = plain (MovingText m d t) st refl refl refl
+  value-within (NewLine l) h =
+      pick-all (ValueWithin s st it (NewLine l)) (above0 (s .«char_height») (given l 0)) (λ _. refused 6 (omega arith))
+      (λ _. pick-all (ValueWithin s st it (NewLine l)) (ltb (st .line) 255) (λ _. line-within l blank) (λ _. refused 8 (omega arith)))
+  value-within NewPage h = (record { reads = tt; prints = refl; rect = refl; just = refl }, refl)
+  value-within (PageBackground c) h = plain (PageBackground c) st refl refl refl
+  value-within (PageTime a b) h = plain (PageTime a b) st refl refl refl
+  value-within (SpacingCharacter c) h =
+      pick-all (ValueWithin s st it (SpacingCharacter c)) (above0 (s .«char_width») c) (λ _. refused 6 (omega arith))
       (λ _. plain (SpacingCharacter c) (withCharSpacing st (Some c)) refl refl refl)
-  step-fair SpacingCharacterEnd h = plain SpacingCharacterEnd (withCharSpacing st None) refl refl refl
-  step-fair (Text p) h =
-      pick-all (FairVal s st it (Text p)) (ltb (st .span) 255)
+  value-within SpacingCharacterEnd h = plain SpacingCharacterEnd (withCharSpacing st None) refl refl refl
+  value-within (Text p) h =
+      pick-all (ValueWithin s st it (Text p)) (ltb (st .span) 255)
       (λ _. (record { reads = tt; prints = refl; rect = refl; just = refl }, refl, record { state = refl; start = h .0; len = h .1; spoken = (refl, refl) }))
       (λ _. refused 8 (omega arith))
-  step-fair (TextRectangle r) h =
-      pick-all (FairVal s st it (TextRectangle r)) (rectFits s (rectOf s r)) (λ q. (record { reads = tt; prints = refl; rect = refl; just = refl }, q))
+  value-within (TextRectangle r) h =
+      pick-all (ValueWithin s st it (TextRectangle r)) (rectFits s (rectOf s r)) (λ q. (record { reads = tt; prints = refl; rect = refl; just = refl }, q))
       (λ _. refused 6 (omega arith))
 
-  said-fair : (x : Said) → Within (it .start) (it .len) x → Fair s st (record { start = it .start; len = it .len; says = x }) (itemStep s st blank it x)
-  said-fair (Is v) h = step-fair v h
-  said-fair (Fails n) h = refused n h
+  said-within : (x : Said) → Within (it .start) (it .len) x → StepWithin s st (record { start = it .start; len = it .len; says = x }) (itemStep s st blank (placeOf it) x)
+  said-within (Is v) h = value-within v h
+  said-within (Fails n) h = refused n h
 
-  pub step-is-fair : Within (it .start) (it .len) (it .says) → Fair s st it (step s st blank it)
+  pub step-within : Within (it .start) (it .len) (it .says) → StepWithin s st it (step s st blank it)
   unfolding step
-  step-is-fair h = said-fair (it .says) h
+  step-within h = said-within (it .says) h
 
 pub whole-grid : (s : Config) → Grid s (whole s)
 whole-grid s = record { across = zero-mod _; down = zero-mod _ }
@@ -239,12 +239,12 @@ pub data ReadAs (s : Config) : List Item → RenderState → List Entry → List
 
 module _ (s : Config) (it : Item) (its : List Item) (k : ℕ → ℕ → RenderState → Bool → List Entry → List Event)
     (hyp : (a b : ℕ) (st : RenderState) (bl : Bool) (acc : List Entry) → ReadAs s its st acc (k a b st bl acc)) where
-  turn-as : (a b : ℕ) (st : RenderState) (acc : List Entry) (o : Option Refusal) → Fair s st it Turn → (scan s a b its) .fault ≡ o
+  turn-as : (a b : ℕ) (st : RenderState) (acc : List Entry) (o : Option Refusal) → StepWithin s st it Turn → (scan s a b its) .fault ≡ o
       → ReadAs s (it ∷ its) st acc (follow s a b st acc its k Turn)
   turn-as a b st acc none f q = rw q (turns (f .0) (f .1) (hyp _ _ (newPage s st) true []))
   turn-as a b st acc (some r) f q = rw q (fails (f .0) (f .1) a b q)
 
-  follow-as : (a b : ℕ) (st : RenderState) (acc : List Entry) (t : Step) → Fair s st it t → ReadAs s (it ∷ its) st acc (follow s a b st acc its k t)
+  follow-as : (a b : ℕ) (st : RenderState) (acc : List Entry) (t : Step) → StepWithin s st it t → ReadAs s (it ∷ its) st acc (follow s a b st acc its k t)
   follow-as a b st acc (Refuse r) f = refuses f
   follow-as a b st acc (Go st′ bl) f = goes (f .0) (f .1) (hyp a b st′ bl acc)
   follow-as a b st acc (Emit e st′ bl) f = emits (f .0) (f .1) (f .2) (hyp a b st′ bl (acc ++ (e ∷ [])))
@@ -255,7 +255,7 @@ pub read-as : (s : Config) (its : List Item) (a b : ℕ) (st : RenderState) (bl 
     → ReadAs s its st acc (read s its a b st bl acc)
 read-as s [] a b st bl acc h = ends
 read-as s (it ∷ its) a b st bl acc h =
-    follow-as s it its (read s its) (λ a b st bl acc. read-as s its a b st bl acc (h .1)) a b st acc (step s st bl it) (step-is-fair s st bl it (h .0))
+    follow-as s it its (read s its) (λ a b st bl acc. read-as s its a b st bl acc (h .1)) a b st acc (step s st bl it) (step-within s st bl it (h .0))
 
 -- the events of a message: its first page's scan fails, or it is read
 pub data EventsAs (s : Config) (its : List Item) : List Event → Type 0 where

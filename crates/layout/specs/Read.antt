@@ -7,6 +7,7 @@ use lib.Dec.{leb, ltb, eqb}
 use Rattle.base.specs.Pick.{pick}
 use Rattle.value.specs.declared.OptFont.{OptFont}
 use Rattle.value.specs.declared.OptFont.the-variants.{Some as SomeFont, None as NoFont}
+use Rattle.value.specs.declared.Place.{Place}
 use Rattle.value.specs.declared.Rectangle.{Rectangle}
 use Rattle.value.specs.declared.Value.{Value}
 use Rattle.value.specs.declared.Value.the-variants.{ColorBackground, ColorForeground, ColorRectangle, Field, Flash, FlashEnd, Font, Graphic, HexadecimalCharacter, JustificationLine, JustificationPage, ManufacturerSpecific, ManufacturerSpecificEnd, MovingText, NewLine, NewPage, PageBackground, PageTime, SpacingCharacter, SpacingCharacterEnd, Text, TextRectangle}
@@ -24,14 +25,14 @@ use Rattle.layout.specs.declared.Mark.{Mark}
 use Rattle.layout.specs.declared.Mark.the-variants.{Plain, Ends, Timed, Wrong}
 use Rattle.layout.specs.declared.Step.{Step}
 use Rattle.layout.specs.declared.Step.the-variants.{Refuse, Go, Emit, Cut, Turn}
-use Rattle.layout.specs.Types.{Item, given}
+use Rattle.layout.specs.Types.{Item, placeOf, given}
 use Rattle.refusal.specs.Refusals.{refusal}
 
 -- ---- a page's scan
 
 -- "5 to 8 carry their slice's place"
-abbrev pub refusalAt : Item → ℕ → Refusal
-refusalAt it n = refusal n (it .start) (it .len) 0
+abbrev pub refusalAt : Place → ℕ → Refusal
+refusalAt at n = refusal n (at .start) (at .len) 0
 
 -- a tag needs its name's bit in the sign's tags: 5, "a tag this sign doesn't support; field 0 counts as unsupported", having no bit
 abbrev pub tagged : ℕ → Value → Mark → Mark
@@ -78,7 +79,7 @@ abbrev pub scanBy : Config → ℕ → ℕ → Item → Mark → (ℕ → ℕ �
 scanBy s a b it Plain next = next a b
 scanBy s a b it Ends next = record { on = a; off = b; fault = none }
 scanBy s a b it (Timed p q) next = next (given p (s .«on_time»)) (given q (s .«off_time»))
-scanBy s a b it (Wrong n) next = record { on = a; off = b; fault = some (refusalAt it n) }
+scanBy s a b it (Wrong n) next = record { on = a; off = b; fault = some (refusalAt (placeOf it) n) }
 
 abbrev pub scan : Config → ℕ → ℕ → List Item → Scan
 scan s a b [] = record { on = a; off = b; fault = none }
@@ -121,8 +122,8 @@ fontStep s st (SomeFont n v) = withFont st n v
 fontStep s st NoFont = withFont st (s .font) None
 
 -- 8: "The 256th .. span since its number restarted"; "a text or [hc] ends the blank"
-abbrev pub spanStep : Item → RenderState → Entry → Step
-spanStep it st e = pick (ltb (st .span) 255) (Emit e (withSpan st (suc (st .span))) false) (Refuse (refusalAt it 8))
+abbrev pub spanStep : Place → RenderState → Entry → Step
+spanStep at st e = pick (ltb (st .span) 255) (Emit e (withSpan st (suc (st .span))) false) (Refuse (refusalAt at 8))
 
 -- "a zero size reaching to the sign's edge"
 abbrev pub extent : ℕ → ℕ → ℕ → ℕ
@@ -149,71 +150,71 @@ abbrev pub justified : OptNum → ℕ → OptNum
 justified None d = Some d
 justified (Some n) d = pick (leb 2 n) (pick (leb n 4) (Some n) None) None
 
-abbrev pub goIf : Item → OptNum → (ℕ → RenderState) → Bool → Step
-goIf it None f blank = Refuse (refusalAt it 6)
-goIf it (Some n) f blank = Go (f n) blank
+abbrev pub goIf : Place → OptNum → (ℕ → RenderState) → Bool → Step
+goIf at None f blank = Refuse (refusalAt at 6)
+goIf at (Some n) f blank = Go (f n) blank
 
 -- "[nl] on a still blank line lists an empty span": kind 2, which "starts at its [nl], length 0"
-abbrev pub lineStep : Item → RenderState → OptNum → Bool → Step
-lineStep it st ls true = Emit (entryOf 2 (it .start) 0 0 st) (withLine st ls) true
-lineStep it st ls false = Go (withLine st ls) true
+abbrev pub lineStep : Place → RenderState → OptNum → Bool → Step
+lineStep at st ls true = Emit (entryOf 2 (at .start) 0 0 st) (withLine st ls) true
+lineStep at st ls false = Go (withLine st ls) true
 
 -- D800 to DFFF hexadecimal
 abbrev pub surrogate : ℕ → Bool
 surrogate c = leb 55296 c && leb c 57343
 
-abbrev pub hexStep : Item → RenderState → ℕ → Step
-hexStep it st c = pick (surrogate c) (Refuse (refusalAt it 6)) (spanStep it st (entryOf 1 (it .start) (it .len) c st))
+abbrev pub hexStep : Place → RenderState → ℕ → Step
+hexStep at st c = pick (surrogate c) (Refuse (refusalAt at 6)) (spanStep at st (entryOf 1 (at .start) (at .len) c st))
 
 -- both above 0
 abbrev pub above0 : ℕ → ℕ → Bool
 above0 a b = ltb 0 a && ltb 0 b
 
 -- 8: "The 256th line end .. since its number restarted"
-abbrev pub newLineStep : Config → RenderState → Bool → Item → OptNum → Step
-newLineStep s st blank it ls =
-    pick (above0 (s .«char_height») (given ls 0)) (Refuse (refusalAt it 6))
-    (pick (ltb (st .line) 255) (lineStep it st ls blank) (Refuse (refusalAt it 8)))
+abbrev pub newLineStep : Config → RenderState → Bool → Place → OptNum → Step
+newLineStep s st blank at ls =
+    pick (above0 (s .«char_height») (given ls 0)) (Refuse (refusalAt at 6))
+    (pick (ltb (st .line) 255) (lineStep at st ls blank) (Refuse (refusalAt at 8)))
 
-abbrev pub spacingStep : Config → RenderState → Bool → Item → ℕ → Step
-spacingStep s st blank it n = pick (above0 (s .«char_width») n) (Refuse (refusalAt it 6)) (Go (withCharSpacing st (Some n)) blank)
+abbrev pub spacingStep : Config → RenderState → Bool → Place → ℕ → Step
+spacingStep s st blank at n = pick (above0 (s .«char_width») n) (Refuse (refusalAt at 6)) (Go (withCharSpacing st (Some n)) blank)
 
-abbrev pub rectStep : Config → RenderState → Item → Rectangle → Step
-rectStep s st it r = pick (rectFits s (rectOf s r)) (Cut (withRect st (rectOf s r))) (Refuse (refusalAt it 6))
+abbrev pub rectStep : Config → RenderState → Place → Rectangle → Step
+rectStep s st at r = pick (rectFits s (rectOf s r)) (Cut (withRect st (rectOf s r))) (Refuse (refusalAt at 6))
 
 -- `render_text_rectangle`: 6 for "[jl1], [jl5], [jp1], [nl] above 0 where character height is above 0, [sc] above 0 where character width is,
 -- [hc] D800 to DFFF hexadecimal, or a [tr] not inside the sign or off its character grid"; 8 for the 256th line end or span
-abbrev pub valueStep : Config → RenderState → Bool → Item → Value → Step
-valueStep s st blank it (ColorBackground c) = Go st blank
-valueStep s st blank it (ColorForeground c) = Go st blank
-valueStep s st blank it (ColorRectangle r c) = Go st blank
-valueStep s st blank it (Field n w) = Go st blank
-valueStep s st blank it (Flash o a b) = Go st blank
-valueStep s st blank it FlashEnd = Go st blank
-valueStep s st blank it (Font f) = Go (fontStep s st f) blank
-valueStep s st blank it (Graphic n p) = Go st blank
-valueStep s st blank it (HexadecimalCharacter c) = hexStep it st c
-valueStep s st blank it (JustificationLine j) = goIf it (justified j (s .«line_just»)) (withJustLine st) blank
-valueStep s st blank it (JustificationPage j) = goIf it (justified j (s .«page_just»)) (withJustPage st) blank
-valueStep s st blank it (ManufacturerSpecific m p) = Go st blank
-valueStep s st blank it (ManufacturerSpecificEnd m p) = Go st blank
-valueStep s st blank it (MovingText m d t) = Go st blank
-valueStep s st blank it (NewLine ls) = newLineStep s st blank it ls
-valueStep s st blank it NewPage = Turn
-valueStep s st blank it (PageBackground c) = Go st blank
-valueStep s st blank it (PageTime a b) = Go st blank
-valueStep s st blank it (SpacingCharacter n) = spacingStep s st blank it n
-valueStep s st blank it SpacingCharacterEnd = Go (withCharSpacing st None) blank
-valueStep s st blank it (Text p) = spanStep it st (entryOf 0 (p .start) (p .len) 0 st)
-valueStep s st blank it (TextRectangle r) = rectStep s st it r
+abbrev pub valueStep : Config → RenderState → Bool → Place → Value → Step
+valueStep s st blank at (ColorBackground c) = Go st blank
+valueStep s st blank at (ColorForeground c) = Go st blank
+valueStep s st blank at (ColorRectangle r c) = Go st blank
+valueStep s st blank at (Field n w) = Go st blank
+valueStep s st blank at (Flash o a b) = Go st blank
+valueStep s st blank at FlashEnd = Go st blank
+valueStep s st blank at (Font f) = Go (fontStep s st f) blank
+valueStep s st blank at (Graphic n p) = Go st blank
+valueStep s st blank at (HexadecimalCharacter c) = hexStep at st c
+valueStep s st blank at (JustificationLine j) = goIf at (justified j (s .«line_just»)) (withJustLine st) blank
+valueStep s st blank at (JustificationPage j) = goIf at (justified j (s .«page_just»)) (withJustPage st) blank
+valueStep s st blank at (ManufacturerSpecific m p) = Go st blank
+valueStep s st blank at (ManufacturerSpecificEnd m p) = Go st blank
+valueStep s st blank at (MovingText m d t) = Go st blank
+valueStep s st blank at (NewLine ls) = newLineStep s st blank at ls
+valueStep s st blank at NewPage = Turn
+valueStep s st blank at (PageBackground c) = Go st blank
+valueStep s st blank at (PageTime a b) = Go st blank
+valueStep s st blank at (SpacingCharacter n) = spacingStep s st blank at n
+valueStep s st blank at SpacingCharacterEnd = Go (withCharSpacing st None) blank
+valueStep s st blank at (Text p) = spanStep at st (entryOf 0 (p .start) (p .len) 0 st)
+valueStep s st blank at (TextRectangle r) = rectStep s st at r
 
 -- an item that fails was refused by the page's scan
-abbrev pub itemStep : Config → RenderState → Bool → Item → Said → Step
-itemStep s st blank it (Is v) = valueStep s st blank it v
-itemStep s st blank it (Fails n) = Refuse (refusalAt it n)
+abbrev pub itemStep : Config → RenderState → Bool → Place → Said → Step
+itemStep s st blank at (Is v) = valueStep s st blank at v
+itemStep s st blank at (Fails n) = Refuse (refusalAt at n)
 
 unfoldable pub step : Config → RenderState → Bool → Item → Step
-step s st blank it = itemStep s st blank it (it .says)
+step s st blank it = itemStep s st blank (placeOf it) (it .says)
 
 -- ---- a message
 

@@ -5,6 +5,7 @@ use mathlib.Core.Option.{Option}
 use mathlib.Core.List.{List, map}
 use lib.ListN.{length}
 use Rattle.token.specs.Token.{Slice, slices}
+use Rattle.value.specs.declared.Place.{Place}
 use Rattle.value.specs.declared.OptNum.{OptNum}
 use Rattle.value.specs.declared.OptNum.the-variants.{Some, None}
 use Rattle.records.specs.declared.Config.{Config}
@@ -20,6 +21,10 @@ pub record Item : Type 0 where
 
 abbrev pub itemAt : Slice → Item
 itemAt s = record { start = s .start; len = length (s .bytes); says = itemOf (s .start) (s .bytes) }
+
+-- where it stands; what a value does looks at no more of its item
+abbrev pub placeOf : Item → Place
+placeOf it = record { start = it .start; len = it .len }
 
 -- the items of a message: its slices, read
 unfoldable pub items : List ℕ → List Item

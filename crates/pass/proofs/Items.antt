@@ -1,6 +1,6 @@
--- What an item is to its step: its place alone; and a text has code points of 16 bits.
+-- A text has code points of 16 bits.
 use Prim.Native.Nat.{ℕ, _<_}
-use mathlib.Core.Path.{_≡_, refl, ap}
+use mathlib.Core.Path.{_≡_, refl}
 use mathlib.Core.Bool.{Bool, true, false}
 use mathlib.Core.Logic.{_⊎_, inl, inr}
 use mathlib.Core.List.{List, [], _∷_}
@@ -15,71 +15,14 @@ use Rattle.utf8.specs.Utf8.{codes, codesFrom, codeOf, allLatin1}
 use Rattle.token.specs.declared.Shape.{Shape}
 use Rattle.token.specs.declared.Shape.the-variants.{Bracket, Tag, Stray, Text as TextShape}
 use Rattle.token.specs.Token.{isPair, lastByte, shapeOf}
-use Rattle.value.specs.declared.Value.{Value}
-use Rattle.value.specs.declared.Value.the-variants.{ColorBackground, ColorForeground, ColorRectangle, Field, Flash, FlashEnd, Font, Graphic, HexadecimalCharacter, JustificationLine, JustificationPage, ManufacturerSpecific, ManufacturerSpecificEnd, MovingText, NewLine, NewPage, PageBackground, PageTime, SpacingCharacter, SpacingCharacterEnd, Text, TextRectangle}
 use Rattle.tag.specs.declared.Parsed.{Parsed}
 use Rattle.reading.specs.declared.Item.{Item as Said}
-use Rattle.reading.specs.declared.Item.the-variants.{Is, Fails}
 use Rattle.reading.specs.Reading.{parsedItem, tagItem, textItem, shapeItem, itemOf}
-use Rattle.records.specs.declared.Config.{Config}
-use Rattle.layout.specs.declared.RenderState.{RenderState}
 use Rattle.layout.specs.declared.Entry.{Entry}
-use Rattle.value.specs.declared.OptNum.{OptNum}
-use Rattle.value.specs.declared.OptNum.the-variants.{Some, None}
-use Rattle.layout.specs.declared.Step.{Step}
-use Rattle.layout.specs.declared.Step.the-variants.{Refuse}
-use Rattle.layout.specs.Types.{Item, given}
-use Rattle.layout.specs.Read.{refusalAt, withJustLine, withJustPage, justified, goIf, lineStep, above0, valueStep, itemStep}
 use Rattle.layout.specs.Demand.{Role, text, hexadecimal, rectangle, pageJust, newPage as pageRole, other, roleOf, roleIn}
 use Rattle.layout.proofs.Cover.{Spoken}
 use Rattle.layout.proofs.Tags.{NoText, TagLike, good, unsupported, bad, tag-value}
 use Rattle.meter.specs.Gauges.{Narrow}
-
--- ---- a step looks at an item's place alone
-
-abbrev at : ℕ → ℕ → Said → Item
-at a n x = record { start = a; len = n; says = x }
-
-module _ (c : Config) (st : RenderState) (blank : Bool) (a n : ℕ) (x y : Said) where
-  go-same : (f : ℕ → RenderState) (o : OptNum) → goIf (at a n x) o f blank ≡ goIf (at a n y) o f blank
-  go-same f None = refl
-  go-same f (Some k) = refl
-
-  line-same : (ls : OptNum) (b : Bool) → lineStep (at a n x) st ls b ≡ lineStep (at a n y) st ls b
-  line-same ls true = refl
-  line-same ls false = refl
-
-  abbrev refuse : ℕ → Step
-  refuse k = Refuse (refusalAt (at a n x) k)
-
-  value-same : (v : Value) → valueStep c st blank (at a n x) v ≡ valueStep c st blank (at a n y) v
-  value-same (ColorBackground k) = refl
-  value-same (ColorForeground k) = refl
-  value-same (ColorRectangle r k) = refl
-  value-same (Field k w) = refl
-  value-same (Flash o i j) = refl
-  value-same FlashEnd = refl
-  value-same (Font f) = refl
-  value-same (Graphic k p) = refl
-  value-same (HexadecimalCharacter k) = refl
-  value-same (JustificationLine j) = go-same (withJustLine st) (justified j (c .«line_just»))
-  value-same (JustificationPage j) = go-same (withJustPage st) (justified j (c .«page_just»))
-  value-same (ManufacturerSpecific m p) = refl
-  value-same (ManufacturerSpecificEnd m p) = refl
-  value-same (MovingText m d t) = refl
-  value-same (NewLine s) =
-      ap (λ (t : Step). pick (above0 (c .«char_height») (given s 0)) (refuse 6) (pick (ltb (st .line) 255) t (refuse 8))) (line-same s blank)
-  value-same NewPage = refl
-  value-same (PageBackground k) = refl
-  value-same (PageTime i j) = refl
-  value-same (SpacingCharacter k) = refl
-  value-same SpacingCharacterEnd = refl
-  value-same (Text p) = refl
-  value-same (TextRectangle r) = refl
-
-  pub item-same : (z : Said) → itemStep c st blank (at a n x) z ≡ itemStep c st blank (at a n y) z
-  item-same (Is v) = value-same v
-  item-same (Fails k) = refl
 
 -- ---- a text is narrow
 

@@ -28,10 +28,9 @@ use Rattle.layout.specs.declared.Step.the-variants.{Refuse, Go, Emit, Cut, Turn
 use Rattle.layout.specs.Types.{Item, itemAt}
 use Rattle.layout.specs.Read.{refusalAt, unit, rectFits, fits, valueStep, itemStep, step}
 use Rattle.layout.proofs.PassLaws.{and-true}
-use Rattle.layout.proofs.Cover.{Fair as StepWithin, step-is-fair as step-within}
+use Rattle.layout.proofs.Cover.{StepWithin, step-within}
 use Rattle.layout.proofs.Items.{item-within}
 use Rattle.page.specs.Scan.{itemsFrom}
-use Rattle.render.specs.Steps.{itemAt as placed}
 use Rattle.rows.specs.declared.Row.{Row}
 use Rattle.rows.specs.Rows.{rowsOf, putRow, ByteFields, RowPut}
 use Rattle.rows.specs.Measured.{rowOf}
@@ -45,7 +44,7 @@ use Rattle.pass.specs.declared.PassDone.{PassDone}
 use Rattle.pass.specs.declared.PassEnd.{PassEnd}
 use Rattle.pass.specs.declared.PassEnd.the-variants.{Refused as RefusedBy, Ended as EndedBy}
 use Rattle.pass.specs.Pass.{Ending, ended, entriesBy, entriesOf, endingBy, endingOf, stepAt, doneBy, told, Inside, tagBytes, Sliced, Steps, Storable, Stored, PassAsked, SpansRead, PassRead}
-use Rattle.pass.proofs.Items.{spoken-narrow, item-same}
+use Rattle.pass.proofs.Items.{spoken-narrow}
 
 -- ---- a rectangle inside the sign
 
@@ -320,27 +319,20 @@ module _ (file : List ℕ) (t : SignFile) (font r : ℕ) (e : r ≡ font) (width
 
 -- of an item that is a value, and of one that fails
 module _ (c : Config) (st : RenderState) (blank : Bool) (p : Place) {item : Said} where
-  pub step-value : {v : Value} {r : Step} → item ≡ Is v → r ≡ valueStep c st blank (placed p) v → r ≡ itemStep c st blank (placed p) item
+  pub step-value : {v : Value} {r : Step} → item ≡ Is v → r ≡ valueStep c st blank p v → r ≡ itemStep c st blank p item
   step-value q e = rw q e
 
-  pub step-fails : {n : ℕ} → item ≡ Fails n → Refuse (refusalAt (placed p) n) ≡ itemStep c st blank (placed p) item
+  pub step-fails : {n : ℕ} → item ≡ Fails n → Refuse (refusalAt p n) ≡ itemStep c st blank p item
   step-fails q = rw q
 
 step-said : (c : Config) (st : RenderState) (blank : Bool) (at n : ℕ) (l : List ℕ) (x : Said) (t : Step)
-    → x ≡ itemOf at l → n ≡ length l → t ≡ itemStep c st blank (placed (place at n)) x → t ≡ stepAt c st blank at l
+    → x ≡ itemOf at l → n ≡ length l → t ≡ itemStep c st blank (place at n) x → t ≡ stepAt c st blank at l
 unfolding stepAt step
 step-said c st blank at n l x t p q r =
-    r ∙ ap (λ (k : ℕ). itemStep c st blank (placed (place at k)) x) q ∙ item-same c st blank at (length l) (Fails 0) x x ∙ here
-  where
-    -- the slice as an item that says y
-    saying : Said → Item
-    saying y = record { start = at; len = length l; says = y }
-
-    here : itemStep c st blank (saying x) x ≡ itemStep c st blank (saying (itemOf at l)) (itemOf at l)
-    here = ap (λ (y : Said). itemStep c st blank (saying y) y) p
+    r ∙ ap (λ (k : ℕ). itemStep c st blank (place at k) x) q ∙ ap (itemStep c st blank (place at (length l))) p
 
 pub step-is : {c : Config} {msg : List ℕ} {st : RenderState} {blank : Bool} {at end : ℕ} {x : Said} {t : Step} → Sliced c msg at end
-    → x ≡ itemOf at (take (end - at) (drop at msg)) → t ≡ itemStep c st blank (placed (place at (length (take (end - at) (drop at msg))))) x
+    → x ≡ itemOf at (take (end - at) (drop at msg)) → t ≡ itemStep c st blank (place at (length (take (end - at) (drop at msg)))) x
     → Steps c msg st blank at end t
 step-is {c} {msg} {st} {blank} {at} {end} {x} {t} h p r =
     let s : List ℕ = take (end - at) (drop at msg) in

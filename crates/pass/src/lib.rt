@@ -2,7 +2,6 @@
 ghost use mathlib.Core.Path.{_≡_};
 ghost use Prim.Native.Nat.{_≤_, _<_};
 ghost use Rattle.layout.specs.Read.{itemStep};
-ghost use Rattle.render.specs.Steps.{itemAt};
 ghost use Rattle.meter.specs.Gauges.{Held};
 ghost use Rattle.pass.specs.Pass.{doneBy, Sliced, Steps, Storable, Stored, PassAsked, PassRead};
 use layout::Entry;
@@ -40,7 +39,7 @@ pub enum PassEnd {
 // What an item at a place does.
 fn step_by(c: Config, st: RenderState, blank: bool, p: Place, item: Item) -> Step
     requires { ⌜ (c .«line_just» ≤ 4) × (c .«page_just» ≤ 4) ⌝ }
-    ensures { λ r. ⌜ r ≡ itemStep c st blank (itemAt p) item ⌝ }
+    ensures { λ r. ⌜ r ≡ itemStep c st blank p item ⌝ }
 {
     match item {
         Item::Is(v) => render::step(c, st, blank, p, v),

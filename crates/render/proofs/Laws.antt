@@ -18,25 +18,23 @@ use Rattle.layout.specs.declared.RenderState.{RenderState}
 use Rattle.layout.specs.declared.Entry.{Entry}
 use Rattle.layout.specs.declared.Step.{Step}
 use Rattle.layout.specs.declared.Step.the-variants.{Refuse, Go, Emit, Cut}
-use Rattle.layout.specs.Types.{Item}
 use Rattle.refusal.specs.Refusals.{refusal}
 use Rattle.layout.specs.Read.{entryOf, withSpan, withLine, spanStep, lineStep, justified, goIf, extent, unit, fits, rectOf, rectFits, withRect, rectStep}
-use Rattle.render.specs.Steps.{itemAt}
 
 pub span-on : (p : Place) (st : RenderState) (e : Entry) (r : RenderState) → st .span < 255 → r ≡ withSpan st (st .span + 1)
-    → Emit e r false ≡ spanStep (itemAt p) st e
+    → Emit e r false ≡ spanStep p st e
 span-on p st e r h k = rw (k, add-one) (search picks depth 4)
 
 pub span-off : (p : Place) (st : RenderState) (e : Entry) (r : Step) → 255 ≤ st .span → r ≡ Refuse (refusal 8 (p .start) (p .len) 0)
-    → r ≡ spanStep (itemAt p) st e
+    → r ≡ spanStep p st e
 span-off p st e r h k = search picks depth 4
 
 -- an answer of `line_step`
 pub line-blank : (p : Place) (st r : RenderState) (ls : OptNum) (b : Bool) → r ≡ withLine st ls → b ≡ true
-    → Emit (entryOf 2 (p .start) 0 0 st) r true ≡ lineStep (itemAt p) st ls b
+    → Emit (entryOf 2 (p .start) 0 0 st) r true ≡ lineStep p st ls b
 line-blank p st r ls b k e = rw (e, k)
 
-pub line-full : (p : Place) (st r : RenderState) (ls : OptNum) (b : Bool) → r ≡ withLine st ls → b ≡ false → Go r true ≡ lineStep (itemAt p) st ls b
+pub line-full : (p : Place) (st r : RenderState) (ls : OptNum) (b : Bool) → r ≡ withLine st ls → b ≡ false → Go r true ≡ lineStep p st ls b
 line-full p st r ls b k e = rw (e, k)
 
 pub ruleset step-ways = (span-on, span-off, line-blank, line-full)
@@ -54,11 +52,11 @@ just-le (Some m) d n h e = go (leb 2 m) (leb m 4) refl e
     go false false q e = absurd (let z : _≡_ {A = ℕ} 0 1 = cc in omega arith)
 
 -- s is the answer of `justified`
-module _ (it : Item) (s : OptNum) (j : OptNum) (d : ℕ) (e : s ≡ justified j d) (f : ℕ → RenderState) (blank : Bool) where
-  pub just-bad : (r : Step) → s ≡ None → r ≡ Refuse (refusal 6 (it .start) (it .len) 0) → r ≡ goIf it (justified j d) f blank
+module _ (at : Place) (s : OptNum) (j : OptNum) (d : ℕ) (e : s ≡ justified j d) (f : ℕ → RenderState) (blank : Bool) where
+  pub just-bad : (r : Step) → s ≡ None → r ≡ Refuse (refusal 6 (at .start) (at .len) 0) → r ≡ goIf at (justified j d) f blank
   just-bad r p q = rw (← e, p) q
 
-  pub just-good : (n : ℕ) (r : RenderState) → s ≡ Some n → d ≤ 4 → r ≡ f (n % 256) → Go r blank ≡ goIf it (justified j d) f blank
+  pub just-good : (n : ℕ) (r : RenderState) → s ≡ Some n → d ≤ 4 → r ≡ f (n % 256) → Go r blank ≡ goIf at (justified j d) f blank
   just-good n r p h q =
       let m : n ≤ 4 = just-le j d n h (sym e ∙ p) in
       let k : n % 256 ≡ n = mod-eq-of-lt (omega arith) in
@@ -111,13 +109,13 @@ placed c st p q = pick (rectFits c q) (Cut (withRect st q)) (Refuse (refusal 6 (
 
 -- q is the rectangle, b whether it fits
 module _ (c : Config) (st : RenderState) (p : Place) (r : Rectangle) (q : Rect) (e : q ≡ rectOf c r) (b : Bool) (f : b ≡ rectFits c q) where
-  pub rect-yes : (x : RenderState) → b ≡ true → x ≡ withRect st q → Cut x ≡ rectStep c st (itemAt p) r
+  pub rect-yes : (x : RenderState) → b ≡ true → x ≡ withRect st q → Cut x ≡ rectStep c st p r
   rect-yes x h k = here (rectFits c q) (sym f ∙ h) ∙ ap (placed c st p) e
     where
       here : (t : Bool) → t ≡ true → Cut x ≡ pick t (Cut (withRect st q)) (Refuse (refusal 6 (p .start) (p .len) 0))
       here t u = rw (u, k)
 
-  pub rect-no : (x : Step) → b ≡ false → x ≡ Refuse (refusal 6 (p .start) (p .len) 0) → x ≡ rectStep c st (itemAt p) r
+  pub rect-no : (x : Step) → b ≡ false → x ≡ Refuse (refusal 6 (p .start) (p .len) 0) → x ≡ rectStep c st p r
   rect-no x h k = here (rectFits c q) (sym f ∙ h) ∙ ap (placed c st p) e
     where
       here : (t : Bool) → t ≡ false → x ≡ pick t (Cut (withRect st q)) (Refuse (refusal 6 (p .start) (p .len) 0))

@@ -3,7 +3,6 @@ ghost use mathlib.Core.Path.{_≡_};
 ghost use Prim.Native.Nat.{_-_, _≤_, _<_};
 ghost use Rattle.refusal.specs.Refusals.{refusal as refusalOf};
 ghost use Rattle.layout.specs.Read.{entryOf, withCharSpacing, extent as extentOf, fits as fitsOf, rectOf, rectFits, justified as justifiedOf, goIf, withJustLine, withJustPage, fontStep, spanStep, lineStep, surrogate as surrogateOf, above0, hexStep, newLineStep, spacingStep, rectStep, valueStep};
-ghost use Rattle.render.specs.Steps.{itemAt};
 use layout::Entry;
 use layout::Rect;
 use layout::RenderState;
@@ -29,7 +28,7 @@ fn refuse(p: Place, number: u8) -> Step
 
 // A text or [hc]: 8 at the 256th span since its number restarted.
 fn span_step(p: Place, st: RenderState, e: Entry) -> Step
-    ensures { λ r. ⌜ r ≡ spanStep (itemAt p) st e ⌝ }
+    ensures { λ r. ⌜ r ≡ spanStep p st e ⌝ }
 {
     let span = st.span;
     if span < 255 {
@@ -46,7 +45,7 @@ fn surrogate(c: u16) -> bool
 
 // [hc]
 fn hex_step(p: Place, st: RenderState, code: u16) -> Step
-    ensures { λ r. ⌜ r ≡ hexStep (itemAt p) st code ⌝ }
+    ensures { λ r. ⌜ r ≡ hexStep p st code ⌝ }
 {
     if surrogate(code) {
         return refuse(p, 6);
@@ -70,7 +69,7 @@ fn both_above(a: u8, b: u16) -> bool
 // The end of a line: an empty span where it is still blank.
 fn line_step(p: Place, st: RenderState, spacing: OptNum, blank: bool) -> Step
     requires { ⌜ st .line < 255 ⌝ }
-    ensures { λ r. ⌜ r ≡ lineStep (itemAt p) st spacing blank ⌝ }
+    ensures { λ r. ⌜ r ≡ lineStep p st spacing blank ⌝ }
 {
     let next = st.with_line(spacing);
     if blank {
@@ -88,7 +87,7 @@ fn line_step(p: Place, st: RenderState, spacing: OptNum, blank: bool) -> Step
 
 // [nl]: 8 at the 256th line end since its number restarted.
 fn new_line_step(c: Config, st: RenderState, blank: bool, p: Place, spacing: OptNum) -> Step
-    ensures { λ r. ⌜ r ≡ newLineStep c st blank (itemAt p) spacing ⌝ }
+    ensures { λ r. ⌜ r ≡ newLineStep c st blank p spacing ⌝ }
 {
     if both_above(c.char_height, layout::given(spacing, 0)) {
         return refuse(p, 6);
@@ -101,7 +100,7 @@ fn new_line_step(c: Config, st: RenderState, blank: bool, p: Place, spacing: Opt
 
 // [sc]
 fn spacing_step(c: Config, st: RenderState, blank: bool, p: Place, n: u8) -> Step
-    ensures { λ r. ⌜ r ≡ spacingStep c st blank (itemAt p) n ⌝ }
+    ensures { λ r. ⌜ r ≡ spacingStep c st blank p n ⌝ }
 {
     if both_above(c.char_width, n as u16) {
         return refuse(p, 6);
@@ -140,7 +139,7 @@ fn justified(j: OptNum, d: u8) -> OptNum
 // [jl]
 fn line_just_step(c: Config, st: RenderState, blank: bool, p: Place, j: OptNum) -> Step
     requires { ⌜ c .«line_just» ≤ 4 ⌝ }
-    ensures { λ r. ⌜ r ≡ goIf (itemAt p) (justifiedOf j (c .«line_just»)) (withJustLine st) blank ⌝ }
+    ensures { λ r. ⌜ r ≡ goIf p (justifiedOf j (c .«line_just»)) (withJustLine st) blank ⌝ }
 {
     let OptNum::Some(n) = justified(j, c.line_just) else {
         return refuse(p, 6);
@@ -151,7 +150,7 @@ fn line_just_step(c: Config, st: RenderState, blank: bool, p: Place, j: OptNum) 
 // [jp]
 fn page_just_step(c: Config, st: RenderState, blank: bool, p: Place, j: OptNum) -> Step
     requires { ⌜ c .«page_just» ≤ 4 ⌝ }
-    ensures { λ r. ⌜ r ≡ goIf (itemAt p) (justifiedOf j (c .«page_just»)) (withJustPage st) blank ⌝ }
+    ensures { λ r. ⌜ r ≡ goIf p (justifiedOf j (c .«page_just»)) (withJustPage st) blank ⌝ }
 {
     let OptNum::Some(n) = justified(j, c.page_just) else {
         return refuse(p, 6);
@@ -214,7 +213,7 @@ fn rect_fits(c: Config, r: Rect) -> bool
 
 // [tr]
 fn rect_step(c: Config, st: RenderState, p: Place, r: Rectangle) -> Step
-    ensures { λ q. ⌜ q ≡ rectStep c st (itemAt p) r ⌝ }
+    ensures { λ q. ⌜ q ≡ rectStep c st p r ⌝ }
 {
     let rect = rect_of(c, r);
     if rect_fits(c, rect) {
@@ -225,7 +224,7 @@ fn rect_step(c: Config, st: RenderState, p: Place, r: Rectangle) -> Step
 
 // A text of the message.
 fn text_step(p: Place, st: RenderState, t: Place) -> Step
-    ensures { λ r. ⌜ r ≡ spanStep (itemAt p) st (entryOf 0 (t .start) (t .len) 0 st) ⌝ }
+    ensures { λ r. ⌜ r ≡ spanStep p st (entryOf 0 (t .start) (t .len) 0 st) ⌝ }
 {
     let e = Entry {
         kind: 0,
@@ -252,7 +251,7 @@ fn end_spacing(st: RenderState, blank: bool) -> Step
 // What the value of an item at a place does in a state. [pt], which the scan took, and the tags that no sign file supports do nothing.
 pub fn step(c: Config, st: RenderState, blank: bool, p: Place, v: Value) -> Step
     requires { ⌜ (c .«line_just» ≤ 4) × (c .«page_just» ≤ 4) ⌝ }
-    ensures { λ r. ⌜ r ≡ valueStep c st blank (itemAt p) v ⌝ }
+    ensures { λ r. ⌜ r ≡ valueStep c st blank p v ⌝ }
 {
     match v {
         Value::ColorBackground(_) => Step::Go(st, blank),

@@ -1,19 +1,19 @@
 use mathlib.Core.Bool.{Bool}
 use mathlib.Core.Path.{_≡_}
 use borrow.Author.Needs.{needs}
+use Rattle.value.specs.declared.Place.{Place}
 use Rattle.value.specs.declared.Value.{Value}
 use Rattle.records.specs.declared.Config.{Config}
 use Rattle.layout.specs.declared.RenderState.{RenderState}
 use Rattle.layout.specs.declared.Step.{Step}
-use Rattle.layout.specs.Types.{Item}
 use Rattle.layout.specs.Read.{valueStep}
 use Rattle.render.proofs.step.Statement.{statement}
 use Rattle.render.proofs.step.Tie as tie
 
 -- the step of a value that is known
-told : (r : Step) (v w : Value) (c : Config) (st : RenderState) (blank : Bool) (it : Item)
-    → v ≡ w → r ≡ valueStep c st blank it w → r ≡ valueStep c st blank it v
-told r v w c st blank it e f = rw e f
+told : (r : Step) (v w : Value) (c : Config) (st : RenderState) (blank : Bool) (at : Place)
+    → v ≡ w → r ≡ valueStep c st blank at w → r ≡ valueStep c st blank at v
+told r v w c st blank at e f = rw e f
 
 pub step-spec : {M : Type 1} → statement M
 step-spec =
