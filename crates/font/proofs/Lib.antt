@@ -1,3 +1,5 @@
 pub mod Laws
 pub mod Tables
 pub mod Filled
+pub mod Codes
+pub mod Texts

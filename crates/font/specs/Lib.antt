@@ -1,3 +1,6 @@
 pub mod Table
 pub mod Character
 pub mod Widths
+pub mod Measure
+pub mod Grown
+pub mod Examples

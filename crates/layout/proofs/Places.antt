@@ -31,8 +31,8 @@ use Rattle.layout.specs.declared.Mark.the-variants.{Plain, Ends, Timed, 
 use Rattle.layout.specs.Types.{Item, items, Board}
 use Rattle.refusal.specs.Refusals.{refusal}
 use Rattle.font.specs.Table.{fontNumbered}
-use Rattle.measure.specs.declared.Measure.{Measure}
-use Rattle.measure.specs.declared.Measure.the-variants.{Width, Missing}
+use Rattle.font.specs.declared.Measure.{Measure}
+use Rattle.font.specs.declared.Measure.the-variants.{Width, Missing}
 use Rattle.layout.specs.Fonts.{versionFault, missing, measureIn, fontFaultIn, charFaultAfter, faultIn, meterOf, boardOf}
 use Rattle.layout.specs.Place.{orElse, unless, firstFault, group, page, faultAt, spanFault, goesBack, backFault, passFault, passRecords}
 use Rattle.layout.specs.Read.{tagged, markItem, scanBy, Scan, scan, Event, pass, close, stop, start, opening, events}

@@ -21,7 +21,7 @@ use Rattle.layout.specs.declared.Answer.the-variants.{On, Off, End, Refu
 use Rattle.layout.specs.Types.{items}
 use Rattle.refusal.specs.Refusals.{refusal}
 use Rattle.font.specs.Character.{lookup, characterIn}
-use Rattle.measure.specs.Measure.{widened, widthAfter, textWidth}
+use Rattle.font.specs.Measure.{widened, widthAfter, textWidth}
 use Rattle.layout.specs.Fonts.{measureIn, meterOf, boardOf}
 use Rattle.layout.specs.Read.{step, opening, events}
 use Rattle.layout.specs.Place.{orElse, unless, due, lineGap, beforeOf, afterOf, linesOf, aboveOf, belowOf, xOf, baseOf, recordOf, spanFault, passFault, passRecords}

@@ -26,9 +26,9 @@ use Rattle.layout.specs.declared.Answer.the-variants.{On, Off, End, Refu
 use Rattle.layout.specs.declared.Rect.{Rect}
 use Rattle.layout.specs.declared.Entry.{Entry}
 use Rattle.layout.specs.Types.{Item, items, given, Board}
-use Rattle.measure.specs.declared.Measure.the-variants.{Width}
+use Rattle.font.specs.declared.Measure.the-variants.{Width}
 use Rattle.font.specs.Table.{fontNumbered}
-use Rattle.measure.specs.Measure.{textWidth}
+use Rattle.font.specs.Measure.{textWidth}
 use Rattle.layout.specs.Fonts.{charsOf, boardOf}
 use Rattle.layout.specs.Place.{group, due, recordOf, passRecords}
 use Rattle.layout.specs.Read.{rectOf, whole, Event, pass, close, stop, events}

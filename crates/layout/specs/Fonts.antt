@@ -8,9 +8,9 @@ use Rattle.base.specs.Pick.{pick}
 use Rattle.records.specs.declared.Config.{Config}
 use Rattle.sign.specs.Sign.{Font}
 use Rattle.font.specs.Table.{fontNumbered}
-use Rattle.measure.specs.declared.Measure.{Measure}
-use Rattle.measure.specs.declared.Measure.the-variants.{Width, Missing}
-use Rattle.measure.specs.Measure.{textWidth}
+use Rattle.font.specs.declared.Measure.{Measure}
+use Rattle.font.specs.declared.Measure.the-variants.{Width, Missing}
+use Rattle.font.specs.Measure.{textWidth}
 use Rattle.utf8.specs.Utf8.{codes}
 use Rattle.value.specs.declared.OptNum.{OptNum}
 use Rattle.value.specs.declared.OptNum.the-variants.{Some, None}

@@ -29,9 +29,9 @@ use Rattle.font.specs.declared.FontFound.{FontFound}
 use Rattle.font.specs.declared.FontFound.the-variants.{Entry as EntryIs, Absent as NoEntry}
 use Rattle.font.proofs.Tables.{table-holds, named-good}
 use Rattle.font.proofs.Laws.{entry-stands}
-use Rattle.measure.specs.declared.Measure.{Measure}
-use Rattle.measure.specs.declared.Measure.the-variants.{Width, Missing}
-use Rattle.measure.specs.Measure.{widened, after, widthAfter, textWidth}
+use Rattle.font.specs.declared.Measure.{Measure}
+use Rattle.font.specs.declared.Measure.the-variants.{Width, Missing}
+use Rattle.font.specs.Measure.{widened, after, widthAfter, textWidth}
 use Rattle.layout.specs.declared.Entry.{Entry}
 use Rattle.layout.specs.Types.{given, Meter}
 use Rattle.layout.specs.Fonts.{versionFault, charsOf, widthOf, measureIn, charFaultAfter, faultIn, meterOf}

@@ -10,8 +10,8 @@ use Rattle.value.specs.declared.OptNum.{OptNum}
 use Rattle.value.specs.declared.OptNum.the-variants.{Some, None}
 use Rattle.sign.specs.Sign.{Font, signFile}
 use Rattle.font.specs.Table.{fontNumbered}
-use Rattle.measure.specs.declared.Measure.{Measure}
-use Rattle.measure.specs.declared.Measure.the-variants.{Width, Missing}
+use Rattle.font.specs.declared.Measure.{Measure}
+use Rattle.font.specs.declared.Measure.the-variants.{Width, Missing}
 use Rattle.layout.specs.declared.Entry.{Entry}
 use Rattle.layout.specs.Types.{given}
 use Rattle.layout.specs.Fonts.{versionFault, missing, measureIn, fontFaultIn, spacingIn, charFaultAfter, faultIn, meterOf}

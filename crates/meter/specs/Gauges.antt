@@ -18,8 +18,8 @@ use Rattle.font.specs.declared.FontFound.the-variants.{Entry as EntryIs}
 use Rattle.font.specs.Character.{charactersAt}
 use Rattle.font.specs.Table.{numbered}
 use Rattle.font.specs.Widths.{Widths}
-use Rattle.measure.specs.declared.Measure.{Measure}
-use Rattle.measure.specs.declared.Measure.the-variants.{Width, Missing}
+use Rattle.font.specs.declared.Measure.{Measure}
+use Rattle.font.specs.declared.Measure.the-variants.{Width, Missing}
 use Rattle.layout.specs.declared.Entry.{Entry}
 use Rattle.layout.specs.Types.{Meter}
 use Rattle.layout.specs.Fonts.{faultIn, spacingIn, widthIn, heightIn, lineSpacingIn, meterOf}

@@ -7,12 +7,12 @@ ghost use lib.ListN.{length};
 ghost use Rattle.font.specs.Character.{charactersAt};
 ghost use Rattle.font.specs.Widths.{Widths};
 ghost use Rattle.layout.specs.Fonts.{charsOf, widthOf};
-ghost use Rattle.measure.specs.Measure.{textWidth};
+ghost use Rattle.font.specs.Measure.{textWidth};
 ghost use Rattle.rows.specs.Measured.{flag as flagOf, gaugeOf, rowBy, rowOf};
 ghost use Rattle.meter.specs.Gauges.{Opened, Held, Narrow, partCodes, Readable, Short, meterIn, fontAt, versionNumber, faultBy, gaugeFor};
 use font::FontFound;
+use font::Measure;
 use layout::Entry;
-use measure::Measure;
 use rows::Fault;
 use rows::Gauge;
 use rows::Row;
@@ -34,7 +34,7 @@ fn hex_width(file: &[u8], f: FontEntry, widths: &[u16], code: u16, spacing: u16)
     requires { ⌜ Widths (charactersAt (now file) f) (now widths) ⌝ }
     ensures { λ r. ⌜ (r ≡ textWidth (charactersAt (now (file .entry)) f) spacing (code ∷ [])) × Short r ⌝ }
 {
-    measure::with_character(file, f, widths, 0, code as u32, spacing)
+    font::with_character(file, f, widths, 0, code as u32, spacing)
 }
 
 // The width of a text of the message.
@@ -52,7 +52,7 @@ fn part_width(
 {
     let start = e.start as usize;
     let end = start + e.len as usize;
-    measure::text_width(file, f, widths, &msg[start..end], spacing)
+    font::text_width(file, f, widths, &msg[start..end], spacing)
 }
 
 // The width of what a span prints.

@@ -1,7 +1,7 @@
 use borrow.Author.Needs.{needs}
-use Rattle.measure.proofs.Laws.{with-ways}
-use Rattle.measure.proofs.with_character.Statement.{statement}
-use Rattle.measure.proofs.with_character.Tie as tie
+use Rattle.font.proofs.Texts.{with-ways}
+use Rattle.font.proofs.with_character.Statement.{statement}
+use Rattle.font.proofs.with_character.Tie as tie
 
 pub with-character-spec : {M : Type 1} → statement M
 with-character-spec =

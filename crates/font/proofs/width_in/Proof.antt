@@ -1,7 +1,7 @@
 use borrow.Author.Needs.{needs}
-use Rattle.measure.proofs.Laws.{in-ways}
-use Rattle.measure.proofs.width_in.Statement.{statement}
-use Rattle.measure.proofs.width_in.Tie as tie
+use Rattle.font.proofs.Texts.{in-ways}
+use Rattle.font.proofs.width_in.Statement.{statement}
+use Rattle.font.proofs.width_in.Tie as tie
 
 pub width-in-spec : {M : Type 1} → statement M
 width-in-spec =

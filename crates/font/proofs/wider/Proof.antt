@@ -1,7 +1,7 @@
 use borrow.Author.Needs.{needs}
-use Rattle.measure.proofs.Laws.{wider-ways}
-use Rattle.measure.proofs.wider.Statement.{statement}
-use Rattle.measure.proofs.wider.Tie as tie
+use Rattle.font.proofs.Texts.{wider-ways}
+use Rattle.font.proofs.wider.Statement.{statement}
+use Rattle.font.proofs.wider.Tie as tie
 
 pub wider-spec : {M : Type 1} → statement M
 wider-spec =

@@ -5,11 +5,11 @@ use mathlib.Core.Path.{_≡_}
 use lib.ListN.{length, drop}
 use Rattle.utf8.specs.Utf8.{codes}
 use Rattle.utf8.proofs.Laws.{code-len}
 use Rattle.font.specs.Character.{charactersAt}
-use Rattle.measure.specs.Measure.{widthAfter, textWidth}
-use Rattle.measure.proofs.Laws.{width-ways, width-start}
-use Rattle.measure.proofs.short_width.Statement.{statement}
-use Rattle.measure.proofs.short_width.Tie as tie
+use Rattle.font.specs.Measure.{widthAfter, textWidth}
+use Rattle.font.proofs.Texts.{width-ways, width-start}
+use Rattle.font.proofs.short_width.Statement.{statement}
+use Rattle.font.proofs.short_width.Tie as tie
 
 abbrev Inv-loop : tie.InvT-loop
 Inv-loop file entry table text spacing w₀ at₀ w at =

@@ -1,7 +1,7 @@
 -- What a character adds to a width, as the loop over a text keeps it.
 use Prim.Native.Nat.{ℕ, _+_, _≤_}
-use Rattle.measure.specs.declared.Measure.{Measure}
-use Rattle.measure.specs.declared.Measure.the-variants.{Width, Missing}
+use Rattle.font.specs.declared.Measure.{Measure}
+use Rattle.font.specs.declared.Measure.the-variants.{Width, Missing}
 
 -- a spacing of 16 bits and a width of 8 bits at most
 abbrev pub Grown : ℕ → Measure → Type 0

@@ -3,9 +3,9 @@ use Prim.Native.Nat.{ℕ}
 use mathlib.Core.Path.{_≡_, refl}
 use mathlib.Core.List.{List, [], _∷_, map}
 use Rattle.sign.specs.Sign.{Character}
 use Rattle.font.specs.Character.{lookup, characterIn}
-use Rattle.measure.specs.Measure.{widened, widthAfter, textWidth}
-use Rattle.measure.specs.declared.Measure.the-variants.{Width, Missing}
+use Rattle.font.specs.Measure.{widened, widthAfter, textWidth}
+use Rattle.font.specs.declared.Measure.the-variants.{Width, Missing}
 
 abbrev ch : ℕ → ℕ → Character
 ch n w = record { number = n; width = w; bitmap = 0 }

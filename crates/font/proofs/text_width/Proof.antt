@@ -3,9 +3,9 @@ use native.Mathlib.Omega.{arith}
 use mathlib.Core.Path.{sym}
 use lib.ListN.{length-take}
 use lib.Seq.{length-take-le}
-use Rattle.measure.proofs.Laws.{width-all}
-use Rattle.measure.proofs.text_width.Statement.{statement}
-use Rattle.measure.proofs.text_width.Tie as tie
+use Rattle.font.proofs.Texts.{width-all}
+use Rattle.font.proofs.text_width.Statement.{statement}
+use Rattle.font.proofs.text_width.Tie as tie
 
 pub text-width-spec : {M : Type 1} → statement M
 text-width-spec =

@@ -4,11 +4,11 @@ use mathlib.Core.List.{List, [], _∷_}
 use lib.Dec.{ltb}
 use Rattle.base.specs.Pick.{pick}
 use Rattle.sign.specs.Sign.{Character}
 use Rattle.font.specs.Character.{characterIn}
 use Rattle.font.specs.declared.Found.{Found}
 use Rattle.font.specs.declared.Found.the-variants.{Is, Missing as Absent}
-use Rattle.measure.specs.declared.Measure.{Measure}
-use Rattle.measure.specs.declared.Measure.the-variants.{Width, Missing}
+use Rattle.font.specs.declared.Measure.{Measure}
+use Rattle.font.specs.declared.Measure.the-variants.{Width, Missing}
 
 -- a width with one character more: "Spacing is added before a character only if the width so far is above 0"
 unfoldable pub widened : ℕ → ℕ → ℕ → ℕ
