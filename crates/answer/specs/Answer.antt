@@ -11,7 +11,7 @@ use Rattle.layout.specs.declared.Answer.the-variants.{On, Off, End, Refused}
 use Rattle.layout.specs.Types.{items}
 use Rattle.layout.specs.Listing.{Result, pages, numbered, checked, result}
 use Rattle.rows.specs.Rows.{SpanRoom, spansOf}
-use Rattle.meter.specs.Gauges.{Opened}
+use Rattle.meter.specs.Gauges.{AcceptedTable}
 use Rattle.pages.specs.Pages.{boardIn, IfShown}
 use Rattle.pages.specs.declared.NextPage.{NextPage}
 use Rattle.pages.specs.declared.NextPage.the-variants.{Page as NextShown, End as NextNone, Refused as NextRefused}
@@ -50,7 +50,7 @@ RecordRoom msg out = length msg ≤ 2048 → SpanRoom (length msg) out
 
 -- a message for an accepted file, with room for its records
 pub record Listable (file : List ℕ) (table : SignFile) (msg out : List ℕ) : Type 0 where
-  pub opened : Opened file table
+  pub opened : AcceptedTable file table
   pub small : length msg ≤ 2048
   pub room : SpanRoom (length msg) out
 
@@ -62,7 +62,7 @@ pub record Numbered (file : List ℕ) (table : SignFile) (msg : List ℕ) (numbe
 
 -- any message for an accepted file
 pub record CheckAsked (file : List ℕ) (table : SignFile) (msg out : List ℕ) : Type 0 where
-  pub opened : Opened file table
+  pub opened : AcceptedTable file table
   pub room : RecordRoom msg out
 
 -- the answer of a number, after the checks of the message

@@ -39,7 +39,8 @@ words-in (b ∷ l) at zero h = go (whole (b ∷ l)) (words-in l (suc at) (restLe
     n : ℕ
     n = bodyLen (b ∷ l)
 
-    go : (t : Bool) → Each Word (charactersOf (cutFrom (suc at) (restLen (b ∷ l)) l)) → Each Word (charactersOf (pick t (Record at (kindOf (b ∷ l)) (take n (drop 4 (b ∷ l)))) (CutShort at) ∷ cutFrom (suc at) (restLen (b ∷ l)) l))
+    go : (t : Bool) → Each Word (charactersOf (cutFrom (suc at) (restLen (b ∷ l)) l))
+        → Each Word (charactersOf (pick t (Record at (kindOf (b ∷ l)) (take n (drop 4 (b ∷ l)))) (CutShort at) ∷ cutFrom (suc at) (restLen (b ∷ l)) l))
     go true r =
         word-record at (kindOf (b ∷ l)) (take n (drop 4 (b ∷ l))) (cutFrom (suc at) (restLen (b ∷ l)) l)
         (word 0 (take n (drop 4 (b ∷ l))) (bytes-take n (drop 4 (b ∷ l)) (bytes-drop 4 (b ∷ l) h))) r
@@ -52,7 +53,8 @@ lookup-wide code zero chs h w = refl
 lookup-wide code (suc n) [] h each-none = refl
 lookup-wide code (suc n) (ch ∷ chs) h (each-more p ps) = rw (ne-eqb (ch .number) code (λ e. absurd (omega arith))) (lookup-wide code n chs h ps)
 
-pub code-wide : (file : List ℕ) (entry : FontEntry) (code : ℕ) → 65535 < code → ((i : ℕ) → Val.Fits w8 (getD file i 0)) → Absent ≡ characterIn code (charactersAt file entry)
+pub code-wide : (file : List ℕ) (entry : FontEntry) (code : ℕ) → 65535 < code
+    → ((i : ℕ) → Val.Fits w8 (getD file i 0)) → Absent ≡ characterIn code (charactersAt file entry)
 unfolding characterIn charactersAt piecesAt
 code-wide file entry code h fits =
     let b : Bytes file = λ i. omega (arith, fits i) in

@@ -13,7 +13,7 @@ use Rattle.records.specs.Record.{piecesAt}
 use Rattle.sign.specs.Sign.{Character, charactersOf}
 use Rattle.sign.specs.declared.FontEntry.{FontEntry}
 use Rattle.font.specs.Character.{lookup, characterIn, charactersAt, characterIs, charactersBy}
-use Rattle.font.specs.Widths.{widthIn, noted, Widths}
+use Rattle.font.specs.Widths.{inTable, noted, Unfilled, Widths}
 use Rattle.font.specs.declared.Found.the-variants.{Is}
 use Rattle.font.specs.declared.Letter.{Letter}
 use Rattle.font.specs.declared.Next.{Next}
@@ -88,11 +88,11 @@ noted-length table k w = go (leb (length table) k) (eqb (getD table k 0) 0)
 -- the characters chs of a font are still to be noted
 pub record Noting (all chs : List Character) (table : List ℕ) : Type 0 where
   pub small : (c : ℕ) → c < length table → getD table c 0 ≤ 256
-  pub at-code : (c : ℕ) → c < length table → kept (getD table c 0) (widthIn (lookup c chs)) ≡ widthIn (characterIn c all)
+  pub at-code : (c : ℕ) → c < length table → kept (getD table c 0) (inTable (lookup c chs)) ≡ inTable (characterIn c all)
 
 module _ (all : List Character) where
   -- code 0 is there from the start
-  pub noting-start : (table : List ℕ) → 0 < length table → ((c : ℕ) → c < length table → getD table c 0 ≡ 0) → Noting all all (set table 0 1)
+  noting-start : (table : List ℕ) → 0 < length table → ((c : ℕ) → c < length table → getD table c 0 ≡ 0) → Noting all all (set table 0 1)
   unfolding characterIn
   noting-start table h z = record { small = small; at-code = at-code }
     where
@@ -106,7 +106,7 @@ module _ (all : List Character) where
       small zero l = omega (arith, first)
       small (suc c) l = omega (arith, other c l)
 
-      at-code : (c : ℕ) → c < length (set table 0 1) → kept (getD (set table 0 1) c 0) (widthIn (lookup c all)) ≡ widthIn (characterIn c all)
+      at-code : (c : ℕ) → c < length (set table 0 1) → kept (getD (set table 0 1) c 0) (inTable (lookup c all)) ≡ inTable (characterIn c all)
       at-code zero l = rw first
       at-code (suc c) l = rw (other c l, ne-eqb (suc c) 0 (λ e. absurd (omega arith)))
 
@@ -114,7 +114,8 @@ module _ (all : List Character) where
   unfolding lookup
   noting-end table g = record { small = g .small; at-code = λ c l. sym (kept-alone (getD table c 0)) ∙ g .at-code c l }
 
-  noting-more : (ch : Character) (chs : List Character) (table : List ℕ) → Noting all (ch ∷ chs) table → ch .width < 256 → Noting all chs (noted table (ch .number) (ch .width))
+  noting-more : (ch : Character) (chs : List Character) (table : List ℕ) → Noting all (ch ∷ chs) table → ch .width < 256
+      → Noting all chs (noted table (ch .number) (ch .width))
   unfolding lookup
   noting-more ch chs table g b = record { small = small; at-code = at-code }
     where
@@ -135,37 +136,52 @@ module _ (all : List Character) where
           go true (suc x) h = h
           go false x h = h
 
-      at-code : (c : ℕ) → c < length (noted table k w) → kept (getD (noted table k w) c 0) (widthIn (lookup c chs)) ≡ widthIn (characterIn c all)
+      at-code : (c : ℕ) → c < length (noted table k w)
+          → kept (getD (noted table k w) c 0) (inTable (lookup c chs)) ≡ inTable (characterIn c all)
       at-code c l = rw (noted-at table k w c (inside c l)) (go (eqb k c) (getD table c 0) ∙ g .at-code c (inside c l))
         where
           later : ℕ
-          later = widthIn (lookup c chs)
+          later = inTable (lookup c chs)
 
-          go : (t : Bool) (x : ℕ) → kept (pick t (kept x (w + 1)) x) later ≡ kept x (widthIn (pick t (Is w (ch .bitmap)) (lookup c chs)))
+          go : (t : Bool) (x : ℕ) → kept (pick t (kept x (w + 1)) x) later ≡ kept x (inTable (pick t (Is w (ch .bitmap)) (lookup c chs)))
           go true zero = kept-some (w + 1) later (λ q. absurd (omega arith))
           go true (suc x) = refl
           go false x = refl
 
--- `widths`: n characters are noted
-module _ (file : List ℕ) (entry : FontEntry) (at n : ℕ) (table : List ℕ) (g : Noting (rest file (entry .first) (entry .characters) 0) (rest file at (entry .characters) n) table) where
-  ended : rest file at (entry .characters) n ≡ [] → Widths (charactersAt file entry) table
-  unfolding charactersAt
-  ended e = rw (← rest-all file (entry .first) (entry .characters)) (noting-end (rest file (entry .first) (entry .characters) 0) table (rw e at g))
+-- `widths`: of count characters from a record on n are noted, the next is at a place, and the table is as long as it was
+pub record Filling (file : List ℕ) (from count : ℕ) (table₀ : List ℕ) (at n : ℕ) (table : List ℕ) : Type 0 where
+  pub same : length table ≡ length table₀
+  pub noting : Noting (rest file from count 0) (rest file at count n) table
 
+pub filled-start : (file : List ℕ) (from count : ℕ) (table : List ℕ) → Unfilled table → Filling file from count (set table 0 1) from 0 (set table 0 1)
+filled-start file from count table h = record { same = refl; noting = noting-start (rest file from count 0) table (h .some) (h .zeros) }
+
+-- no character is left
+filled : (file : List ℕ) (entry : FontEntry) (at n : ℕ) (table₀ table : List ℕ) → Filling file (entry .first) (entry .characters) table₀ at n table
+    → rest file at (entry .characters) n ≡ [] → Widths (charactersAt file entry) table
+unfolding charactersAt
+filled file entry at n table₀ table so e =
+    rw (← rest-all file (entry .first) (entry .characters))
+    (noting-end (rest file (entry .first) (entry .characters) 0) table (rw e at (so .noting)))
+
+module _ (file : List ℕ) (entry : FontEntry) (at n : ℕ) (table₀ table : List ℕ)
+    (so : Filling file (entry .first) (entry .characters) table₀ at n table) where
   pub filled-past : entry .characters ≤ n → Widths (charactersAt file entry) table
-  filled-past h = ended (rest-past file at (entry .characters) n h)
+  filled-past h = filled file entry at n table₀ table so (rest-past file at (entry .characters) n h)
 
-  module _ (s : Next) (p : charactersOf (piecesAt file at) ≡ charactersBy file s) where
-    pub filled-none : s ≡ End → Widths (charactersAt file entry) table
-    filled-none q = ended (rest-none file at (entry .characters) n s p q)
+  pub filled-none : (s : Next) → charactersOf (piecesAt file at) ≡ charactersBy file s → s ≡ End → Widths (charactersAt file entry) table
+  filled-none s p q = filled file entry at n table₀ table so (rest-none file at (entry .characters) n s p q)
 
-    pub filled-on : n < entry .characters → (ch : Letter) → s ≡ Here ch → ch .width < 256 → (t : List ℕ) → t ≡ noted table (ch .number) (ch .width) → Noting (rest file (entry .first) (entry .characters) 0) (rest file (ch .end) (entry .characters) (n + 1)) t
-    filled-on h ch q b t e =
-        rw e (noting-more (rest file (entry .first) (entry .characters) 0) (characterIs ch) (rest file (ch .end) (entry .characters) (n + 1)) table
-        (rw (rest-more file at (entry .characters) n s p h ch q) at g) b)
+module _ (file : List ℕ) (from count : ℕ) (table₀ : List ℕ) (at n : ℕ) (table : List ℕ) (so : Filling file from count table₀ at n table) where
+  pub filled-on : (s : Next) → charactersOf (piecesAt file at) ≡ charactersBy file s → (ch : Letter) → s ≡ Here ch → n < count → ch .width < 256
+      → (t : List ℕ) → t ≡ noted table (ch .number) (ch .width) → Filling file from count table₀ (ch .end) (n + 1) t
+  filled-on s p ch q h b t e =
+      record {
+        same = ap length e ∙ noted-length table (ch .number) (ch .width) ∙ so .same;
+        noting =
+            rw e
+            (noting-more (rest file from count 0) (characterIs ch) (rest file (ch .end) count (n + 1)) table
+            (rw (rest-more file at count n s p h ch q) at (so .noting)) b);
+      }
 
--- a table keeps its length
-pub filled-length : (table t : List ℕ) (number width m : ℕ) → length table ≡ m → t ≡ noted table number width → length t ≡ m
-filled-length table t number width m p e = ap length e ∙ noted-length table number width ∙ p
-
-pub ruleset filled-ways = (noting-start, filled-past, filled-none, filled-on, filled-length, length-set)
+pub ruleset filled-ways = (filled-start, filled-past, filled-none, filled-on)

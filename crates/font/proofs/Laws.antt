@@ -48,7 +48,8 @@ module _ (file : List ℕ) (at : ℕ) (s : Head) (p : s ≡ headAt file at) wher
     unfolding charactersOf
     next-kind k = rw (next, ne-eqb kind 3 k)
 
-    pub next-is : kind ≡ 3 → (x y : ℕ) → x ≡ littleAt 2 0 body → y ≡ getD body 2 0 → charactersOf (piecesAt file at) ≡ record { number = x; width = y; bitmap = start + 3 } ∷ charactersOf (piecesAt file end)
+    pub next-is : kind ≡ 3 → (x y : ℕ) → x ≡ littleAt 2 0 body → y ≡ getD body 2 0
+        → charactersOf (piecesAt file at) ≡ record { number = x; width = y; bitmap = start + 3 } ∷ charactersOf (piecesAt file end)
     unfolding charactersOf
     next-is k x y e f =
         let to : start + 3 ≡ at + 7 = omega (arith, head-start file at kind start end (sym p ∙ q)) in
@@ -130,23 +131,27 @@ entry-stands file f g = ap (take (length (f .characters))) (sym (g .are)) ∙ ta
 
 -- the bitmap of a character that is found lies within the file
 module _ (file : List ℕ) (height width bitmap : ℕ) where
-  found-in : (code : ℕ) (chs : List Character) → Each (GoodCharacter file height) chs → lookup code chs ≡ Is width bitmap → (width < 256) × (bitmap + bitmapLen width height ≤ length file)
+  abbrev Inside : Type 0
+  Inside = (width < 256) × (bitmap + bitmapLen width height ≤ length file)
+
+  found-in : (code : ℕ) (chs : List Character) → Each (GoodCharacter file height) chs → lookup code chs ≡ Is width bitmap → Inside
   unfolding lookup
   found-in code [] each-none e = never (let z : _≡_ {A = ℕ} 0 1 = cc in z)
   found-in code (ch ∷ chs) (each-more g gs) e = go (eqb (ch .number) code) (found-in code chs gs) e
     where
-      go : (t : Bool) → (lookup code chs ≡ Is width bitmap → (width < 256) × (bitmap + bitmapLen width height ≤ length file)) → pick t (Is (ch .width) (ch .bitmap)) (lookup code chs) ≡ Is width bitmap → (width < 256) × (bitmap + bitmapLen width height ≤ length file)
+      go : (t : Bool) → (lookup code chs ≡ Is width bitmap → Inside) → pick t (Is (ch .width) (ch .bitmap)) (lookup code chs) ≡ Is width bitmap → Inside
       go true k d =
           let a : ch .width ≡ width = cc in
           let b : ch .bitmap ≡ bitmap = cc in
           (rw (← a) (g .width-byte), rw (← a, ← b) (g .inside))
       go false k d = k d
 
-  pub found-inside : (code : ℕ) (f : Font) → GoodFont file f → f .height ≡ height → characterIn code (f .characters) ≡ Is width bitmap → (width < 256) × (bitmap + bitmapLen width height ≤ length file)
+  pub found-inside : (code : ℕ) (f : Font) → GoodFont file f → f .height ≡ height → characterIn code (f .characters) ≡ Is width bitmap
+      → (width < 256) × (bitmap + bitmapLen width height ≤ length file)
   unfolding characterIn bitmapLen
   found-inside code f g h e = go (eqb code 0) e
     where
-      go : (t : Bool) → pick t (Is 0 0) (lookup code (f .characters)) ≡ Is width bitmap → (width < 256) × (bitmap + bitmapLen width height ≤ length file)
+      go : (t : Bool) → pick t (Is 0 0) (lookup code (f .characters)) ≡ Is width bitmap → Inside
       go true d =
           let a : width ≡ 0 = cc in
           let b : bitmap ≡ 0 = cc in

@@ -18,59 +18,69 @@ use Rattle.sign.specs.Accepted.{Each, each-none, each-more}
 use Rattle.sign.specs.declared.FontEntry.{FontEntry}
 use Rattle.sign.specs.declared.SignFile.{SignFile}
 use Rattle.sign.proofs.Answer.{Accepts}
-use Rattle.font.specs.Table.{fontNumbered, numbered, entryFound}
+use Rattle.font.specs.Table.{fontNumbered, entryNumbered, entryFound}
 use Rattle.font.specs.declared.FontFound.{FontFound}
 use Rattle.font.specs.declared.FontFound.the-variants.{Entry, Absent}
 
+-- `font_numbered`: none of the table's first i fonts has the number
+pub record NotYet (n count i : ℕ) (fonts : List FontEntry) : Type 0 where
+  pub within : i ≤ count
+  pub sized : length fonts ≡ 24
+  pub same : entryNumbered n (drop i (take count fonts)) ≡ entryNumbered n (take count fonts)
+
 -- an array of structs has its length, whatever its elements are read as
-pub mapped-length : (X Y : Type 0) (f : X → Y) (l : List X) (n : ℕ) → length (map f l) ≡ n → length l ≡ n
-mapped-length X Y f l n e = sym (length-map l f) ∙ e
+pub table-start : (n count : ℕ) (Y : Type 0) (f : FontEntry → Y) (fonts : List FontEntry) → length (map f fonts) ≡ 24 → NotYet n count 0 fonts
+table-start n count Y f fonts e = record { within = omega arith; sized = sym (length-map fonts f) ∙ e; same = refl }
 
-module _ (n i count : ℕ) (fonts : List FontEntry) (w : FontFound) (inv : numbered n (drop i (take count fonts)) ≡ w) where
+module _ {n count i : ℕ} {fonts : List FontEntry} (so : NotYet n count i fonts) where
   -- no font is left
-  ended : length (take count fonts) ≤ i → Absent ≡ w
-  unfolding numbered
-  ended h = rw (drop-of-length-le (take count fonts) h) at inv
+  ended : length (take count fonts) ≤ i → Absent ≡ entryNumbered n (take count fonts)
+  unfolding entryNumbered
+  ended h = rw (drop-of-length-le (take count fonts) h) at (so .same)
 
-  pub table-stop : i ≡ count → Absent ≡ w
+  pub table-stop : i ≡ count → Absent ≡ entryNumbered n (take count fonts)
   table-stop e = ended (simp length-take (omega arith))
 
-  module _ (z : length fonts ≡ 24) where
-    pub table-end : 24 ≤ i → Absent ≡ w
-    table-end h = ended (simp length-take (omega arith))
+  pub table-end : 24 ≤ i → Absent ≡ entryNumbered n (take count fonts)
+  table-end h = ended (simp length-take (omega (arith, so .sized)))
 
-    module _ (h : i < 24) (p : i ≤ count) (q : i ≡ count → ⊥) (d : FontEntry) where
-      inside : i < length (take count fonts)
-      inside = simp length-take (omega arith)
+  module _ (h : i < 24) (q : i ≡ count → ⊥) where
+    within-count : i < count
+    within-count = omega (arith, so .within)
 
-      within : i < count
-      within = omega arith
+    inside : i < length (take count fonts)
+    inside = simp length-take (omega (arith, so .sized, so .within))
 
-      here : pick (eqb (getD fonts i d .number) n) (Entry (getD fonts i d)) (numbered n (drop (i + 1) (take count fonts))) ≡ w
-      unfolding numbered
-      here = rw (add-one i, ← getD-take count fonts i d within) (rw (drop-cons (take count fonts) i d inside) at inv)
+    here : (d : FontEntry) → pick (eqb (getD fonts i d .number) n) (Entry (getD fonts i d)) (entryNumbered n (drop (i + 1) (take count fonts)))
+        ≡ entryNumbered n (take count fonts)
+    unfolding entryNumbered
+    here d = rw (add-one i, ← getD-take count fonts i d within-count) (rw (drop-cons (take count fonts) i d inside) at (so .same))
 
-      pub table-is : getD fonts i d .number ≡ n → Entry (getD fonts i d) ≡ w
-      table-is e = rw (eq-eqb (getD fonts i d .number) n e) at here
+    pub table-is : (d : FontEntry) → getD fonts i d .number ≡ n → Entry (getD fonts i d) ≡ entryNumbered n (take count fonts)
+    table-is d e = rw (eq-eqb (getD fonts i d .number) n e) at (here d)
 
-      pub table-on : (getD fonts i d .number ≡ n → ⊥) → numbered n (drop (i + 1) (take count fonts)) ≡ w
-      table-on e = rw (ne-eqb (getD fonts i d .number) n e) at here
+    pub table-on : (d : FontEntry) → (getD fonts i d .number ≡ n → ⊥) → NotYet n count (i + 1) fonts
+    table-on d e = record { within = omega (arith, within-count); sized = so .sized; same = rw (ne-eqb (getD fonts i d .number) n e) at (here d) }
 
 -- what is found in the table is what is found among the fonts
-pub numbered-is : (n : ℕ) (fs : List Font) → numbered n (map entryOf fs) ≡ entryFound (fontNumbered n fs)
-unfolding numbered
+pub numbered-is : (n : ℕ) (fs : List Font) → entryNumbered n (map entryOf fs) ≡ entryFound (fontNumbered n fs)
+unfolding entryNumbered
 numbered-is n [] = refl
 numbered-is n (f ∷ fs) = go (eqb (f .number) n) (numbered-is n fs)
   where
-    go : (t : Bool) → numbered n (map entryOf fs) ≡ entryFound (fontNumbered n fs) → pick t (Entry (entryOf f)) (numbered n (map entryOf fs)) ≡ entryFound (pick t (some f) (fontNumbered n fs))
+    go : (t : Bool) → entryNumbered n (map entryOf fs) ≡ entryFound (fontNumbered n fs)
+        → pick t (Entry (entryOf f)) (entryNumbered n (map entryOf fs)) ≡ entryFound (pick t (some f) (fontNumbered n fs))
     go true e = refl
     go false e = e
 
-pub table-holds : (file : List ℕ) (r : SignFile) (a : Accepts file r) (n : ℕ) → numbered n (take (r .count) (r .fonts)) ≡ entryFound (fontNumbered n (a .fs))
+pub table-holds : (file : List ℕ) (r : SignFile) (a : Accepts file r) (n : ℕ)
+    → entryNumbered n (take (r .count) (r .fonts)) ≡ entryFound (fontNumbered n (a .fs))
 table-holds file r a n = rw list (numbered-is n (a .fs))
   where
     list : take (r .count) (r .fonts) ≡ map entryOf (a .fs)
-    list = ap (take (r .count)) (a .table) ∙ take-at (map entryOf (a .fs)) (noFonts (24 - length (a .fs))) (r .count) (length-map (a .fs) entryOf ∙ sym (a .many))
+    list =
+        ap (take (r .count)) (a .table)
+        ∙ take-at (map entryOf (a .fs)) (noFonts (24 - length (a .fs))) (r .count) (length-map (a .fs) entryOf ∙ sym (a .many))
 
 -- a font that is found has the number, and what holds of each font
 module _ (P : Font → Type 0) (n : ℕ) (f : Font) where
@@ -78,7 +88,8 @@ module _ (P : Font → Type 0) (n : ℕ) (f : Font) where
   named-good [] each-none e = never (let z : _≡_ {A = ℕ} 0 1 = cc in z)
   named-good (g ∷ fs) (each-more p ps) e = go (eqb (g .number) n) refl (named-good fs ps) e
     where
-      go : (t : Bool) → eqb (g .number) n ≡ t → (fontNumbered n fs ≡ some f → (f .number ≡ n) × P f) → pick t (some g) (fontNumbered n fs) ≡ some f → (f .number ≡ n) × P f
+      go : (t : Bool) → eqb (g .number) n ≡ t → (fontNumbered n fs ≡ some f → (f .number ≡ n) × P f)
+          → pick t (some g) (fontNumbered n fs) ≡ some f → (f .number ≡ n) × P f
       go true a k d =
           let same : g ≡ f = cc in
           (ap (λ (x : Font). x .number) (sym same) ∙ eqb-true (g .number) n a, subst P same p)

@@ -1,29 +1,25 @@
 -- The ways on and out of the loop over a text.
-use Prim.Native.Nat.{ℕ, zero, suc, _+_, _-_, _*_, _≤_, _<_}
+use Prim.Native.Nat.{ℕ, _+_, _-_, _*_, _≤_, _<_}
 use mathlib.Core.Path.{_≡_, refl, sym, _∙_, ap}
 use mathlib.Core.List.{List, [], _∷_}
 use mathlib.Core.Bool.{Bool, true, false}
 use native.Mathlib.Omega.{arith}
-use lib.Dec.{ltb, eqb}
+use lib.Dec.{ltb}
 use lib.ListN.{length, getD, take, drop}
 use lib.Seq.{take-all}
-use borrow.Author.Tests.{lt-ltb, le-ltb, ne-eqb}
+use borrow.Author.Tests.{lt-ltb, le-ltb}
 use Rattle.base.specs.Pick.{pick}
 use Rattle.utf8.specs.Utf8.{codes, codeAt}
 use Rattle.utf8.specs.declared.Code.{Code}
 use Rattle.utf8.proofs.Laws.{codes-next, codes-end, code-less, len-is}
 use Rattle.records.proofs.Laws.{never}
-use Rattle.records.specs.Record.{Piece, Record, CutShort, bodyLen, kindOf, whole, firstPiece, restLen, cutFrom, piecesAt}
-use Rattle.sign.specs.Sign.{Character, characterOf, charactersOf}
-use Rattle.sign.specs.Accepted.{Each, each-none, each-more, Bytes}
-use Rattle.sign.specs.declared.FontEntry.{FontEntry}
-use Rattle.sign.proofs.Accepted.{bytes-take, bytes-drop, word}
-use Rattle.font.specs.Character.{lookup, characterIn, charactersAt}
-use Rattle.font.specs.Widths.{widthIn, Widths}
+use Rattle.sign.specs.Sign.{Character}
+use Rattle.font.specs.Character.{characterIn}
+use Rattle.font.specs.Widths.{inTable, StandsFor, Widths}
 use Rattle.font.specs.declared.Found.{Found}
 use Rattle.font.specs.declared.Found.the-variants.{Is, Missing as Absent}
-use Rattle.font.specs.Measure.{widened, after, widthAfter, textWidth}
-use Rattle.font.specs.Grown.{Grown}
+use Rattle.font.specs.Measure.{widened, withWidth, widthAfter, textWidth}
+use Rattle.font.specs.Grown.{OneMore}
 use Rattle.font.specs.declared.Measure.{Measure}
 use Rattle.font.specs.declared.Measure.the-variants.{Width, Missing}
 
@@ -41,28 +37,24 @@ pub ruleset wider-ways = (wider-more, wider-first)
 
 -- `width_in`
 module _ (chs : List Character) (code : ℕ) where
-  module _ (table : List ℕ) (g : Widths chs table) (h : code < length table) where
-    pub in-table : getD table code 0 ≡ widthIn (characterIn code chs)
-    in-table = g .at-code code h
-
-    pub in-small : getD table code 0 ≤ 256
-    in-small = g .small code h
+  pub in-table : (table : List ℕ) → Widths chs table → code < length table → StandsFor chs code (getD table code 0)
+  in-table table g h = record { is = g .at-code code h; small = g .small code h }
 
   module _ (f : Found) (p : f ≡ characterIn code chs) where
-    pub in-none : f ≡ Absent → 0 ≡ widthIn (characterIn code chs)
-    in-none q = rw (← p, q)
+    pub in-none : f ≡ Absent → StandsFor chs code 0
+    in-none q = record { is = rw (← p, q); small = omega arith }
 
-    pub in-some : (width bitmap : ℕ) → f ≡ Is width bitmap → (x : ℕ) → x ≡ width → x + 1 ≡ widthIn (characterIn code chs)
-    in-some width bitmap q x e = rw (← p, q, e)
+    pub in-some : (width bitmap : ℕ) → f ≡ Is width bitmap → (x : ℕ) → x ≡ width → x < 256 → StandsFor chs code (x + 1)
+    in-some width bitmap q x e h = record { is = rw (← p, q, e); small = omega arith }
 
-pub ruleset in-ways = (in-table, in-small, in-none, in-some)
+pub ruleset in-ways = (in-table, in-none, in-some)
 
 -- `with_character`: x is what stands for what is found
-after-none : (f : Found) (code : ℕ) (on : ℕ → Measure) → 0 ≡ widthIn f → after f code on ≡ Missing code
+after-none : (f : Found) (code : ℕ) (on : ℕ → Measure) → 0 ≡ inTable f → withWidth f code on ≡ Missing code
 after-none (Is more bitmap) code on e = absurd (omega arith)
 after-none Absent code on e = refl
 
-after-some : (f : Found) (code : ℕ) (on : ℕ → Measure) (x : ℕ) → x ≡ widthIn f → (x ≡ 0 → ⊥) → after f code on ≡ on (x - 1)
+after-some : (f : Found) (code : ℕ) (on : ℕ → Measure) (x : ℕ) → x ≡ inTable f → (x ≡ 0 → ⊥) → withWidth f code on ≡ on (x - 1)
 after-some (Is more bitmap) code on x e n =
     let d : x - 1 ≡ more = omega arith in
     rw d
@@ -76,69 +68,88 @@ widened-le w spacing more h k = go (ltb 0 w)
     go true = omega arith
     go false = omega arith
 
-module _ (chs : List Character) (w spacing code x : ℕ) (p : x ≡ widthIn (characterIn code chs)) where
+module _ (chs : List Character) (w spacing code x : ℕ) (so : StandsFor chs code x) where
   abbrev on : ℕ → Measure
   on more = Width (widened w spacing more)
 
-  pub with-none : x ≡ 0 → Missing code ≡ widthAfter chs spacing w (code ∷ [])
+  pub with-none : x ≡ 0 → OneMore chs spacing w code (Missing code)
   unfolding widthAfter
-  with-none z = sym (after-none (characterIn code chs) code on (sym z ∙ p))
+  with-none z = record { is = sym (after-none (characterIn code chs) code on (sym z ∙ so .is)); grown = tt }
 
-  pub with-some : (x ≡ 0 → ⊥) → (v : ℕ) → v ≡ widened w spacing (x - 1) → Width v ≡ widthAfter chs spacing w (code ∷ [])
+  pub with-some : (x ≡ 0 → ⊥) → spacing < 65536 → (v : ℕ) → v ≡ widened w spacing (x - 1) → OneMore chs spacing w code (Width v)
   unfolding widthAfter
-  with-some n v d = ap Width d ∙ sym (after-some (characterIn code chs) code on x p n)
+  with-some n s v d =
+      record {
+        is = ap Width d ∙ sym (after-some (characterIn code chs) code on x (so .is) n);
+        grown = rw d (widened-le w spacing (x - 1) s (omega (arith, so .small)));
+      }
 
-  pub with-grown : x ≤ 256 → (x ≡ 0 → ⊥) → spacing < 65536 → (v : ℕ) → v ≡ widened w spacing (x - 1) → v ≤ w + 65790
-  with-grown h n s v d = rw d (widened-le w spacing (x - 1) s (omega arith))
+pub ruleset with-ways = (with-none, with-some)
 
-pub ruleset with-ways = (with-none, with-some, with-grown)
+-- `short_width`: the text from a place on, after a width so far, is as wide as the whole
+pub record Measuring (chs : List Character) (spacing : ℕ) (text : List ℕ) (w at : ℕ) : Type 0 where
+  pub small : w ≤ 65790 * at
+  pub same : widthAfter chs spacing w (codes (drop at text)) ≡ textWidth chs spacing (codes text)
 
--- `short_width`: r is the answer of `with_character`
-after-missing : (f : Found) (code x : ℕ) (g : ℕ → ℕ) (on : ℕ → Measure) → after f code (λ more. Width (g more)) ≡ Missing x → after f code on ≡ Missing code
+pub width-start : (chs : List Character) (spacing : ℕ) (text : List ℕ) → Measuring chs spacing text 0 0
+unfolding textWidth
+width-start chs spacing text = record { small = omega arith; same = refl }
+
+after-missing : (f : Found) (code x : ℕ) (g : ℕ → ℕ) (on : ℕ → Measure) → withWidth f code (λ more. Width (g more)) ≡ Missing x
+    → withWidth f code on ≡ Missing code
 after-missing (Is more bitmap) code x g on e = never (let z : _≡_ {A = ℕ} 0 1 = cc in z)
 after-missing Absent code x g on e = refl
 
-after-width : (f : Found) (code v : ℕ) (g : ℕ → ℕ) (on : ℕ → Measure) → after f code (λ more. Width (g more)) ≡ Width v → after f code (λ more. on (g more)) ≡ on v
+after-width : (f : Found) (code v : ℕ) (g : ℕ → ℕ) (on : ℕ → Measure) → withWidth f code (λ more. Width (g more)) ≡ Width v
+    → withWidth f code (λ more. on (g more)) ≡ on v
 after-width (Is more bitmap) code v g on e =
     let d : g more ≡ v = cc in
     rw d
 after-width Absent code v g on e = never (let z : _≡_ {A = ℕ} 0 1 = cc in z)
 
-module _ (text : List ℕ) (at w : ℕ) (chs : List Character) (spacing : ℕ) (m : Measure) (inv : widthAfter chs spacing w (codes (drop at text)) ≡ m) where
-  pub width-end : length text ≤ at → Width w ≡ m
+module _ (chs : List Character) (spacing : ℕ) (text : List ℕ) (w at : ℕ) (so : Measuring chs spacing text w at) where
+  pub width-end : length text ≤ at → Width w ≡ textWidth chs spacing (codes text)
   unfolding widthAfter
-  width-end h = rw (codes-end text at h) at inv
+  width-end h = rw (codes-end text at h) at (so .same)
 
-  module _ (h : at < length text) (c : Code) (e : c ≡ codeAt text at) (r : Measure) (q : r ≡ widthAfter chs spacing w (c .code ∷ [])) where
-    abbrev rest : ℕ → Measure
-    rest v = widthAfter chs spacing v (codes (drop (at + c .len) text))
+  module _ (h : at < length text) where
+    pub width-room : length text ≤ 65000 → w ≤ 65790 * 65000
+    width-room k = omega (arith, so .small)
 
-    here : after (characterIn (c .code) chs) (c .code) (λ more. rest (widened w spacing more)) ≡ m
-    unfolding widthAfter
-    here = rw (codes-next text at c e h) at inv
+    -- r is the answer of `with_character`
+    module _ (c : Code) (e : c ≡ codeAt text at) (r : Measure) (q : OneMore chs spacing w (c .code) r) where
+      abbrev later : ℕ → Measure
+      later v = widthAfter chs spacing v (codes (drop (at + c .len) text))
 
-    one : after (characterIn (c .code) chs) (c .code) (λ more. Width (widened w spacing more)) ≡ r
-    unfolding widthAfter
-    one = sym q
+      here : withWidth (characterIn (c .code) chs) (c .code) (λ more. later (widened w spacing more)) ≡ textWidth chs spacing (codes text)
+      unfolding widthAfter
+      here = rw (codes-next text at c e h) at (so .same)
 
-    pub width-missing : (x : ℕ) → r ≡ Missing x → Missing (c .code) ≡ m
-    width-missing x z = sym (after-missing (characterIn (c .code) chs) (c .code) x (widened w spacing) (λ more. rest (widened w spacing more)) (one ∙ z)) ∙ here
+      one : withWidth (characterIn (c .code) chs) (c .code) (λ more. Width (widened w spacing more)) ≡ r
+      unfolding widthAfter
+      one = sym (q .is)
 
-    pub width-on : (v : ℕ) → r ≡ Width v → widthAfter chs spacing v (codes (drop (at + c .len) text)) ≡ m
-    width-on v z = sym (after-width (characterIn (c .code) chs) (c .code) v (widened w spacing) rest (one ∙ z)) ∙ here
+      pub width-missing : (x : ℕ) → r ≡ Missing x → Missing (c .code) ≡ textWidth chs spacing (codes text)
+      width-missing x z =
+          sym (after-missing (characterIn (c .code) chs) (c .code) x (widened w spacing) (λ more. later (widened w spacing more)) (one ∙ z))
+          ∙ here
 
--- the width is at most 65,790 for each byte
-pub width-fits : (text : List ℕ) (at w v : ℕ) (c : Code) (r : Measure) → c ≡ codeAt text at → Grown w r → r ≡ Width v → w ≤ 65790 * at → v ≤ 65790 * (at + c .len)
-width-fits text at w v c r e g z b =
-    let k : v ≤ w + 65790 = rw z at g in
-    omega (arith, k, len-is text at c e)
+      -- the width is at most 65,790 for each byte
+      width-fits : (v : ℕ) → r ≡ Width v → v ≤ 65790 * (at + c .len)
+      width-fits v z =
+          let k : v ≤ w + 65790 = rw z at (q .grown) in
+          omega (arith, k, so .small, len-is text at c e)
 
-pub ruleset width-ways = (width-end, width-missing, width-on, width-fits, code-less)
+      pub width-on : (v : ℕ) → r ≡ Width v → Measuring chs spacing text v (at + c .len)
+      width-on v z =
+          record {
+            small = width-fits v z;
+            same = sym (after-width (characterIn (c .code) chs) (c .code) v (widened w spacing) later (one ∙ z)) ∙ here;
+          }
 
-pub width-start : (chs : List Character) (spacing : ℕ) (text : List ℕ) → widthAfter chs spacing 0 (codes (drop 0 text)) ≡ textWidth chs spacing (codes text)
-unfolding textWidth
-width-start chs spacing text = refl
+pub ruleset width-ways = (width-start, width-end, width-room, width-missing, width-on, code-less)
 
 -- `text_width`: a short text is all of it
-pub width-all : (chs : List Character) (spacing : ℕ) (text : List ℕ) (r : Measure) → r ≡ textWidth chs spacing (codes text) → length text ≤ 65000 → r ≡ textWidth chs spacing (codes (take 65000 text))
+pub width-all : (chs : List Character) (spacing : ℕ) (text : List ℕ) (r : Measure) → r ≡ textWidth chs spacing (codes text) → length text ≤ 65000
+    → r ≡ textWidth chs spacing (codes (take 65000 text))
 width-all chs spacing text r e h = rw (take-all 65000 text h) e

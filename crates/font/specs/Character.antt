@@ -1,4 +1,5 @@
--- Document 01, "Font measure": "`Font::character` gives the font's entry whose number is the code; code 0, which no file can define, counts as a character of width 0 without lamps".
+-- Document 01, "Font measure": "`Font::character` gives the font's entry whose number is the code; code 0, which no file can define, counts as
+-- a character of width 0 without lamps".
 use Prim.Native.Nat.{ℕ}
 use mathlib.Core.List.{List, [], _∷_}
 use lib.Dec.{eqb}

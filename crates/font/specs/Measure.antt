@@ -15,14 +15,14 @@ unfoldable pub widened : ℕ → ℕ → ℕ → ℕ
 widened w spacing more = w + (pick (ltb 0 w) spacing 0 + more)
 
 -- goes on with a character's width, or stops at a code that the font does not define
-abbrev pub after : Found → ℕ → (ℕ → Measure) → Measure
-after (Is more bitmap) code on = on more
-after Absent code on = Missing code
+abbrev pub withWidth : Found → ℕ → (ℕ → Measure) → Measure
+withWidth (Is more bitmap) code on = on more
+withWidth Absent code on = Missing code
 
 -- the codes of a text, after a width so far
 unfoldable pub widthAfter : List Character → ℕ → ℕ → List ℕ → Measure
 widthAfter chs spacing w [] = Width w
-widthAfter chs spacing w (c ∷ l) = after (characterIn c chs) c (λ more. widthAfter chs spacing (widened w spacing more) l)
+widthAfter chs spacing w (c ∷ l) = withWidth (characterIn c chs) c (λ more. widthAfter chs spacing (widened w spacing more) l)
 
 -- `text_width` of a text with these codes
 unfoldable pub textWidth : List Character → ℕ → List ℕ → Measure

@@ -16,9 +16,9 @@ fontNumbered n [] = none
 fontNumbered n (f ∷ fs) = pick (eqb (f .number) n) (some f) (fontNumbered n fs)
 
 -- among the entries of the table
-unfoldable pub numbered : ℕ → List FontEntry → FontFound
-numbered n [] = Absent
-numbered n (e ∷ es) = pick (eqb (e .number) n) (Entry e) (numbered n es)
+unfoldable pub entryNumbered : ℕ → List FontEntry → FontFound
+entryNumbered n [] = Absent
+entryNumbered n (e ∷ es) = pick (eqb (e .number) n) (Entry e) (entryNumbered n es)
 
 -- the entry of what is found among the fonts
 abbrev pub entryFound : Option Font → FontFound

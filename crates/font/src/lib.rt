@@ -3,17 +3,16 @@ use records::Head;
 use sign::FontEntry;
 use sign::SignFile;
 ghost use mathlib.Core.Path.{_≡_};
-ghost use mathlib.Core.List.{_∷_, []};
-ghost use Prim.Native.Nat.{ℕ, _*_, _≤_, _<_};
-ghost use lib.ListN.{length, getD, take};
+ghost use Prim.Native.Nat.{_*_, _≤_};
+ghost use lib.ListN.{length, take};
 ghost use Rattle.utf8.specs.Utf8.{codes};
 ghost use Rattle.records.specs.Record.{piecesAt};
 ghost use Rattle.sign.specs.Sign.{charactersOf};
-ghost use Rattle.font.specs.Table.{numbered};
+ghost use Rattle.font.specs.Table.{entryNumbered};
 ghost use Rattle.font.specs.Character.{lookup, characterIn, charactersAt, charactersBy};
-ghost use Rattle.font.specs.Widths.{widthIn, noted, Widths};
-ghost use Rattle.font.specs.Measure.{widened, widthAfter, textWidth};
-ghost use Rattle.font.specs.Grown.{Grown};
+ghost use Rattle.font.specs.Widths.{noted, Unfilled, StandsFor, Widths};
+ghost use Rattle.font.specs.Measure.{widened, textWidth};
+ghost use Rattle.font.specs.Grown.{OneMore};
 
 // A character's width, and where its bitmap starts in the file.
 pub enum Found {
@@ -49,7 +48,7 @@ pub enum Measure {
 
 // The font with a number.
 pub fn font_numbered(table: SignFile, number: u8) -> FontFound
-    ensures { λ r. ⌜ r ≡ numbered number (take (table .count) (table .fonts)) ⌝ }
+    ensures { λ r. ⌜ r ≡ entryNumbered number (take (table .count) (table .fonts)) ⌝ }
 {
     let count = table.count;
     let mut i: usize = 0;
@@ -133,8 +132,7 @@ fn note(table: &mut [u16], number: u16, width: u8)
 
 // Fills a table of zeros with the widths of a font: at each code the width and 1, or 0 for a code that is missing.
 pub fn widths(file: &[u8], entry: FontEntry, table: &mut [u16])
-    requires { ⌜ 0 < length (now table) ⌝ }
-    requires { ⌜ ((c : ℕ) → c < length (now table) → getD (now table) c 0 ≡ 0) ⌝ }
+    requires { ⌜ Unfilled (now table) ⌝ }
     ensures { λ r. ⌜ Widths (charactersAt (now (file .entry)) entry) (now (table .exit)) ⌝ }
 {
     table[0] = 1;
@@ -167,7 +165,7 @@ fn wider(width: u32, spacing: u16, more: u16) -> u32
 // A character's width and 1, or 0 for one that is missing; the table has those of the codes below its length.
 fn width_in(file: &[u8], entry: FontEntry, table: &[u16], code: u32) -> u16
     requires { ⌜ Widths (charactersAt (now file) entry) (now table) ⌝ }
-    ensures { λ r. ⌜ (r ≡ widthIn (characterIn code (charactersAt (now (file .entry)) entry))) × (r ≤ 256) ⌝ }
+    ensures { λ r. ⌜ StandsFor (charactersAt (now (file .entry)) entry) code r ⌝ }
 {
     let k = code as usize;
     if k < table.len() {
@@ -190,7 +188,7 @@ pub fn with_character(
 ) -> Measure
     requires { ⌜ Widths (charactersAt (now file) entry) (now table) ⌝ }
     requires { ⌜ width ≤ 65790 * 65000 ⌝ }
-    ensures { λ r. ⌜ (r ≡ widthAfter (charactersAt (now (file .entry)) entry) spacing width (code ∷ [])) × Grown width r ⌝ }
+    ensures { λ r. ⌜ OneMore (charactersAt (now (file .entry)) entry) spacing width code r ⌝ }
 {
     let more = width_in(file, entry, table, code);
     if more == 0 {

@@ -9,15 +9,16 @@ use Rattle.base.specs.Pick.{pick}
 use Rattle.value.specs.declared.OptNum.{OptNum}
 use Rattle.value.specs.declared.OptNum.the-variants.{Some, None}
 use Rattle.utf8.specs.Utf8.{codes}
-use Rattle.sign.specs.Sign.{Font, Sign, Accepted as Content, RefusedAt as Refusal, signFile}
+use Rattle.sign.specs.Sign.{Character, Font, Sign, Accepted as Content, RefusedAt as Refusal, signFile}
 use Rattle.sign.specs.Given.{given as tableOf}
 use Rattle.sign.specs.declared.FontEntry.{FontEntry}
 use Rattle.sign.specs.declared.SignFile.{SignFile}
 use Rattle.sign.specs.declared.Outcome.the-variants.{Accepted}
 use Rattle.font.specs.declared.FontFound.the-variants.{Entry as EntryIs}
 use Rattle.font.specs.Character.{charactersAt}
-use Rattle.font.specs.Table.{numbered}
+use Rattle.font.specs.Table.{entryNumbered}
 use Rattle.font.specs.Widths.{Widths}
+use Rattle.font.specs.Measure.{textWidth}
 use Rattle.font.specs.declared.Measure.{Measure}
 use Rattle.font.specs.declared.Measure.the-variants.{Width, Missing}
 use Rattle.layout.specs.declared.Entry.{Entry}
@@ -36,35 +37,50 @@ unfoldable pub meterIn : List ℕ → List ℕ → Meter
 meterIn file msg = meterOf msg (fontsIn (signFile file))
 
 -- the table was read from the file, which is accepted
-abbrev pub Opened : List ℕ → SignFile → Type 0
-Opened file t = (t ≡ tableOf (signFile file)) × (t .outcome ≡ Accepted)
+abbrev pub AcceptedTable : List ℕ → SignFile → Type 0
+AcceptedTable file t = (t ≡ tableOf (signFile file)) × (t .outcome ≡ Accepted)
 
 -- widths holds those of the font with a number, if the table has one
-abbrev pub Held : List ℕ → SignFile → ℕ → List ℕ → Type 0
-Held file t font widths = (f : FontEntry) → numbered font (take (t .count) (t .fonts)) ≡ EntryIs f → Widths (charactersAt file f) widths
+abbrev pub WidthsOf : List ℕ → SignFile → ℕ → List ℕ → Type 0
+WidthsOf file t font widths = (f : FontEntry) → entryNumbered font (take (t .count) (t .fonts)) ≡ EntryIs f → Widths (charactersAt file f) widths
 
--- code points of 16 bits, as a refusal's detail has
-abbrev pub Narrow : List ℕ → Type 0
-Narrow [] = Unit {0}
-Narrow (c ∷ l) = (c < 65536) × Narrow l
+-- code points that fit in 16 bits, as a refusal's detail has
+abbrev pub CodesFit : List ℕ → Type 0
+CodesFit [] = Unit {0}
+CodesFit (c ∷ l) = (c < 65536) × CodesFit l
 
-abbrev pub Short : Measure → Type 0
-Short (Width w) = Unit {0}
-Short (Missing c) = c < 65536
+-- the code of a missing character fits
+abbrev pub CodeFits : Measure → Type 0
+CodeFits (Width w) = Unit {0}
+CodeFits (Missing c) = c < 65536
 
 -- the code points of the part of a message that is an entry's
 unfoldable pub partCodes : List ℕ → Entry → List ℕ
 partCodes msg e = codes (take (e .len) (drop (e .start) msg))
 
--- an entry of a message: it lies inside, and a text is narrow
-pub record Readable (msg : List ℕ) (e : Entry) : Type 0 where
+-- the width of these codes
+pub record WidthFound (chs : List Character) (spacing : ℕ) (l : List ℕ) (r : Measure) : Type 0 where
+  pub is : r ≡ textWidth chs spacing l
+  pub fits : CodeFits r
+
+-- an entry of a message: it lies inside, and the codes of a text fit
+pub record EntryIn (msg : List ℕ) (e : Entry) : Type 0 where
   pub inside : e .start + e .len ≤ length msg
   pub small : length msg ≤ 2048
-  pub narrow : e .kind ≡ 0 → Narrow (partCodes msg e)
+  pub codes-fit : e .kind ≡ 0 → CodesFit (partCodes msg e)
 
 -- the font of an entry of the table
 unfoldable pub fontAt : List ℕ → FontEntry → Font
-fontAt file f = record { number = f .number; height = f .height; charSpacing = f .«char_spacing»; lineSpacing = f .«line_spacing»; version = f .«version_id»; first = f .first; characters = charactersAt file f }
+fontAt file f =
+    record {
+      number = f .number;
+      height = f .height;
+      charSpacing = f .«char_spacing»;
+      lineSpacing = f .«line_spacing»;
+      version = f .«version_id»;
+      first = f .first;
+      characters = charactersAt file f;
+    }
 
 -- 11 where the version ids differ
 abbrev pub versionNumber : OptNum → ℕ → ℕ

@@ -2,14 +2,11 @@
 ghost use mathlib.Core.Path.{_≡_};
 ghost use mathlib.Core.List.{_∷_, []};
 ghost use mathlib.Core.Option.{none, some};
-ghost use Prim.Native.Nat.{_+_, _≤_};
-ghost use lib.ListN.{length};
 ghost use Rattle.font.specs.Character.{charactersAt};
 ghost use Rattle.font.specs.Widths.{Widths};
 ghost use Rattle.layout.specs.Fonts.{charsOf, widthOf};
-ghost use Rattle.font.specs.Measure.{textWidth};
 ghost use Rattle.rows.specs.Measured.{flag as flagOf, gaugeOf, rowBy, rowOf};
-ghost use Rattle.meter.specs.Gauges.{Opened, Held, Narrow, partCodes, Readable, Short, meterIn, fontAt, versionNumber, faultBy, gaugeFor};
+ghost use Rattle.meter.specs.Gauges.{AcceptedTable, WidthsOf, partCodes, EntryIn, CodeFits, WidthFound, meterIn, fontAt, versionNumber, faultBy, gaugeFor};
 use font::FontFound;
 use font::Measure;
 use layout::Entry;
@@ -32,7 +29,7 @@ fn flag(o: OptNum) -> u16
 // The width of a character alone.
 fn hex_width(file: &[u8], f: FontEntry, widths: &[u16], code: u16, spacing: u16) -> Measure
     requires { ⌜ Widths (charactersAt (now file) f) (now widths) ⌝ }
-    ensures { λ r. ⌜ (r ≡ textWidth (charactersAt (now (file .entry)) f) spacing (code ∷ [])) × Short r ⌝ }
+    ensures { λ r. ⌜ WidthFound (charactersAt (now (file .entry)) f) spacing (code ∷ []) r ⌝ }
 {
     font::with_character(file, f, widths, 0, code as u32, spacing)
 }
@@ -47,8 +44,8 @@ fn part_width(
     spacing: u16,
 ) -> Measure
     requires { ⌜ Widths (charactersAt (now file) f) (now widths) ⌝ }
-    requires { ⌜ (e .start + e .len ≤ length (now msg)) × (length (now msg) ≤ 2048) × Narrow (partCodes (now msg) e) ⌝ }
-    ensures { λ r. ⌜ (r ≡ textWidth (charactersAt (now (file .entry)) f) spacing (partCodes (now (msg .entry)) e)) × Short r ⌝ }
+    requires { ⌜ EntryIn (now msg) e × (e .kind ≡ 0) ⌝ }
+    ensures { λ r. ⌜ WidthFound (charactersAt (now (file .entry)) f) spacing (partCodes (now (msg .entry)) e) r ⌝ }
 {
     let start = e.start as usize;
     let end = start + e.len as usize;
@@ -65,8 +62,8 @@ fn span_width(
     spacing: u16,
 ) -> Measure
     requires { ⌜ Widths (charactersAt (now file) f) (now widths) ⌝ }
-    requires { ⌜ Readable (now msg) e ⌝ }
-    ensures { λ r. ⌜ (r ≡ textWidth (charactersAt (now (file .entry)) f) spacing (charsOf (now (msg .entry)) e)) × Short r ⌝ }
+    requires { ⌜ EntryIn (now msg) e ⌝ }
+    ensures { λ r. ⌜ WidthFound (charactersAt (now (file .entry)) f) spacing (charsOf (now (msg .entry)) e) r ⌝ }
 {
     if e.kind == 0 {
         return part_width(file, f, widths, msg, e, spacing);
@@ -103,7 +100,7 @@ fn width_of(m: Measure) -> u32
 
 // 11, or 12 with its code where a character is missing.
 fn fault_by(version: u8, m: Measure) -> Fault
-    requires { ⌜ Short m ⌝ }
+    requires { ⌜ CodeFits m ⌝ }
     ensures { λ r. ⌜ r ≡ faultBy version m ⌝ }
 {
     if version != 0 {
@@ -127,7 +124,7 @@ fn fault_by(version: u8, m: Measure) -> Fault
 // A span in a font.
 fn gauge_in(file: &[u8], f: FontEntry, widths: &[u16], msg: &[u8], e: Entry) -> Gauge
     requires { ⌜ Widths (charactersAt (now file) f) (now widths) ⌝ }
-    requires { ⌜ Readable (now msg) e ⌝ }
+    requires { ⌜ EntryIn (now msg) e ⌝ }
     ensures { λ r. ⌜ r ≡ gaugeFor (now (msg .entry)) e (some (fontAt (now (file .entry)) f)) ⌝ }
 {
     let st = e.state;
@@ -164,7 +161,7 @@ fn no_font(e: Entry) -> Gauge
 
 // The widths of the font with a number, or zeros.
 pub fn widths_of(file: &[u8], table: SignFile, font: u8) -> [u16; 256]
-    ensures { λ r. ⌜ Held (now (file .entry)) table font r ⌝ }
+    ensures { λ r. ⌜ WidthsOf (now (file .entry)) table font r ⌝ }
 {
     let mut widths = [0u16; 256];
     let FontFound::Entry(f) = font::font_numbered(table, font) else {
@@ -176,8 +173,8 @@ pub fn widths_of(file: &[u8], table: SignFile, font: u8) -> [u16; 256]
 
 // What the fonts say of a span: widths has those of its font.
 fn gauge_of(file: &[u8], table: SignFile, widths: &[u16], msg: &[u8], e: Entry) -> Gauge
-    requires { ⌜ Opened (now file) table × Readable (now msg) e ⌝ }
-    requires { ⌜ Held (now file) table (e .state .font) (now widths) ⌝ }
+    requires { ⌜ AcceptedTable (now file) table × EntryIn (now msg) e ⌝ }
+    requires { ⌜ WidthsOf (now file) table (e .state .font) (now widths) ⌝ }
     ensures { λ r. ⌜ r ≡ gaugeOf (meterIn (now (file .entry)) (now (msg .entry))) e ⌝ }
 {
     let st = e.state;
@@ -218,8 +215,8 @@ fn row_by(e: Entry, g: Gauge) -> Row
 
 // A span's row: widths has those of its font.
 pub fn row_of(file: &[u8], table: SignFile, widths: &[u16; 256], msg: &[u8], e: Entry) -> Row
-    requires { ⌜ Opened (now file) table × Readable (now msg) e ⌝ }
-    requires { ⌜ Held (now file) table (e .state .font) (now widths) ⌝ }
+    requires { ⌜ AcceptedTable (now file) table × EntryIn (now msg) e ⌝ }
+    requires { ⌜ WidthsOf (now file) table (e .state .font) (now widths) ⌝ }
     ensures { λ r. ⌜ r ≡ rowOf (meterIn (now (file .entry)) (now (msg .entry))) e ⌝ }
 {
     let g = gauge_of(file, table, widths, msg, e);

@@ -23,7 +23,7 @@ use Rattle.page.specs.Scan.{faultIs, itemsFrom}
 use Rattle.rows.specs.Rows.{rowsOf, spansOf}
 use Rattle.place.specs.Placed.{rowsFault, rowsRecords, Placeable, PassPlaced}
 use Rattle.place.proofs.Bridge.{pass-fault, pass-records}
-use Rattle.meter.specs.Gauges.{Opened, meterIn}
+use Rattle.meter.specs.Gauges.{AcceptedTable, meterIn}
 use Rattle.meter.proofs.Tells.{meter-told}
 use Rattle.pass.specs.declared.PassDone.{PassDone}
 use Rattle.pass.specs.declared.PassEnd.{PassEnd}
@@ -60,7 +60,7 @@ module _ {file : List ℕ} {table : SignFile} {msg : List ℕ} {from : ℕ} {st 
 
     pub render-asks : ((i : ℕ) → Val.Fits w8 (getD file i 0)) → Placeable (d .rect) rows (d .count) out at
     render-asks bytes =
-        let o : Opened file table = asked .ready .opened in
+        let o : AcceptedTable file table = asked .ready .opened in
         let a : Accepts file table = accepts file table (o .0) (λ i. omega (arith, bytes i)) (o .1) in
         let p : SpansRead file table msg from st rows d = spans in
         record {

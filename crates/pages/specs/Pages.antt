@@ -24,7 +24,7 @@ use Rattle.page.specs.declared.PageState.the-variants.{On as OnState, Off as Of
 use Rattle.page.specs.State.{newPage as newState, doneAfter, nextState}
 use Rattle.page.specs.Scan.{itemsFrom}
 use Rattle.rows.specs.Rows.{RowRoom, SpanRoom, spansOf}
-use Rattle.meter.specs.Gauges.{Opened, meterIn}
+use Rattle.meter.specs.Gauges.{AcceptedTable, meterIn}
 use Rattle.pass.specs.declared.PassDone.{PassDone}
 use Rattle.pass.specs.declared.PassEnd.{PassEnd}
 use Rattle.pass.specs.declared.PassEnd.the-variants.{Refused as RefusedPass, Ended as EndedPass}
@@ -43,7 +43,7 @@ boardIn file msg c = record { config = c; meter = meterIn file msg }
 
 -- a message for an accepted file, with room for its rows and its records
 pub record Ready (file : List ℕ) (table : SignFile) (msg rows out : List ℕ) : Type 0 where
-  pub opened : Opened file table
+  pub opened : AcceptedTable file table
   pub small : length msg ≤ 2048
   pub rowed : RowRoom (length msg) rows
   pub room : SpanRoom (length msg) out

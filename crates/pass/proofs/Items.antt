@@ -22,25 +22,25 @@ use Rattle.layout.specs.declared.Entry.{Entry}
 use Rattle.layout.specs.Demand.{Role, text, hexadecimal, rectangle, pageJust, newPage as pageRole, other, roleOf, roleIn}
 use Rattle.layout.proofs.Cover.{Spoken}
 use Rattle.layout.proofs.Tags.{NoText, TagLike, good, unsupported, bad, tag-value}
-use Rattle.meter.specs.Gauges.{Narrow}
+use Rattle.meter.specs.Gauges.{CodesFit}
 
 -- ---- a text is narrow
 
 -- the first bytes of s that an item says as a text
 abbrev Clear : List ℕ → Role → Type 0
-Clear s (text p) = Narrow (codes (take (p .len) s))
+Clear s (text p) = CodesFit (codes (take (p .len) s))
 Clear s hexadecimal = Unit {0}
 Clear s (rectangle r) = Unit {0}
 Clear s (pageJust j) = Unit {0}
 Clear s pageRole = Unit {0}
 Clear s other = Unit {0}
 
-latin-narrow : (l : List ℕ) → allLatin1 l ≡ true → Narrow l
+latin-narrow : (l : List ℕ) → allLatin1 l ≡ true → CodesFit l
 unfolding allLatin1
 latin-narrow [] e = tt
 latin-narrow (c ∷ l) e = go (ltb c 1) (ltb 255 c) refl (latin-narrow l) e
   where
-    go : (t u : Bool) → ltb 255 c ≡ u → (allLatin1 l ≡ true → Narrow l) → pick t false (pick u false (allLatin1 l)) ≡ true → (c < 65536) × Narrow l
+    go : (t u : Bool) → ltb 255 c ≡ u → (allLatin1 l ≡ true → CodesFit l) → pick t false (pick u false (allLatin1 l)) ≡ true → (c < 65536) × CodesFit l
     go true u q k d = absurd (let z : _≡_ {A = ℕ} 0 1 = cc in omega arith)
     go false true q k d = absurd (let z : _≡_ {A = ℕ} 0 1 = cc in omega arith)
     go false false q k d = (omega (arith, ltb-false 255 c q), k d)
@@ -72,22 +72,22 @@ pair-first b s e = go (eqb (length s) 2) (eqb (getD s 0 0) b) refl e
     go true false q d = absurd (let z : _≡_ {A = ℕ} 0 1 = cc in omega arith)
     go false u q d = absurd (let z : _≡_ {A = ℕ} 0 1 = cc in omega arith)
 
-one-narrow : (b : ℕ) → (b ≡ 91) ⊎ (b ≡ 93) → Narrow (codes (b ∷ []))
+one-narrow : (b : ℕ) → (b ≡ 91) ⊎ (b ≡ 93) → CodesFit (codes (b ∷ []))
 unfolding codes codesFrom codeOf
 one-narrow b (inl e) = rw e (omega arith, tt)
 one-narrow b (inr e) = rw e (omega arith, tt)
 
-first-narrow : (s : List ℕ) → (getD s 0 0 ≡ 91) ⊎ (getD s 0 0 ≡ 93) → Narrow (codes (take 1 s))
+first-narrow : (s : List ℕ) → (getD s 0 0 ≡ 91) ⊎ (getD s 0 0 ≡ 93) → CodesFit (codes (take 1 s))
 first-narrow [] (inl e) = absurd (omega arith)
 first-narrow [] (inr e) = absurd (omega arith)
 first-narrow (b ∷ s) h = one-narrow b h
 
-bracket-narrow : (s : List ℕ) → shapeOf s ≡ Bracket → Narrow (codes (take 1 s))
+bracket-narrow : (s : List ℕ) → shapeOf s ≡ Bracket → CodesFit (codes (take 1 s))
 unfolding shapeOf
 bracket-narrow s e = go (isPair 91 s) (isPair 93 s) refl refl (eqb (getD s 0 0) 91) (eqb (lastByte s) 93) (eqb (getD s 0 0) 93) e
   where
     go : (t u : Bool) → isPair 91 s ≡ t → isPair 93 s ≡ u → (x y z : Bool)
-        → pick t Bracket (pick u Bracket (pick x (pick y Tag Stray) (pick z Stray TextShape))) ≡ Bracket → Narrow (codes (take 1 s))
+        → pick t Bracket (pick u Bracket (pick x (pick y Tag Stray) (pick z Stray TextShape))) ≡ Bracket → CodesFit (codes (take 1 s))
     go true u p q x y z d = first-narrow s (inl (pair-first 91 s p))
     go false true p q x y z d = first-narrow s (inr (pair-first 93 s q))
     go false false p q true true z d = absurd (let k : _≡_ {A = ℕ} 0 1 = cc in omega arith)
@@ -115,7 +115,7 @@ module _ (a : ℕ) (s : List ℕ) where
   item-clear = shape-clear (shapeOf s) refl
 
   -- the bytes of a text entry of the slice s
-  spoken : (e : Entry) (r : Role) → Spoken e r → Clear s r → e .kind ≡ 0 → Narrow (codes (take (e .len) s))
+  spoken : (e : Entry) (r : Role) → Spoken e r → Clear s r → e .kind ≡ 0 → CodesFit (codes (take (e .len) s))
   spoken e (text p) h k z = rw (h .1) k
   spoken e hexadecimal h k z = absurd (h z)
   spoken e (rectangle r) h k z = absurd (h z)
@@ -123,5 +123,5 @@ module _ (a : ℕ) (s : List ℕ) where
   spoken e pageRole h k z = absurd (h z)
   spoken e other h k z = absurd (h z)
 
-  pub spoken-narrow : (e : Entry) → Spoken e (roleIn (itemOf a s)) → e .kind ≡ 0 → Narrow (codes (take (e .len) s))
+  pub spoken-narrow : (e : Entry) → Spoken e (roleIn (itemOf a s)) → e .kind ≡ 0 → CodesFit (codes (take (e .len) s))
   spoken-narrow e h z = spoken e (roleIn (itemOf a s)) h item-clear z

@@ -37,7 +37,7 @@ use Rattle.rows.specs.Measured.{rowOf}
 use Rattle.rows.proofs.Laws.{rows-put}
 use Rattle.sign.specs.declared.SignFile.{SignFile}
 use Rattle.sign.proofs.Answer.{Accepts, accepts}
-use Rattle.meter.specs.Gauges.{Opened, Held, Narrow, meterIn, partCodes, Readable}
+use Rattle.meter.specs.Gauges.{AcceptedTable, WidthsOf, CodesFit, meterIn, partCodes, EntryIn}
 use Rattle.pass.specs.declared.How.{How}
 use Rattle.pass.specs.declared.How.the-variants.{Cut as ByCut, Turn as ByTurn, End as ByEnd}
 use Rattle.pass.specs.declared.PassDone.{PassDone}
@@ -79,7 +79,7 @@ pub record Stands (file : List ℕ) (table : SignFile) (msg : List ℕ) (from : 
   pub entries :
       rowsOf rows n ++ map (rowOf (meterIn file msg)) (entriesOf (table .config) (itemsFrom at msg) st blank)
       ≡ map (rowOf (meterIn file msg)) (entriesOf (table .config) (itemsFrom from msg) first true)
-  pub kept : held < 256 → Held file table held widths
+  pub kept : held < 256 → WidthsOf file table held widths
 
 module _ {file : List ℕ} {table : SignFile} {msg : List ℕ} {from : ℕ} {first : RenderState} {rows₀ rows : List ℕ}
     {st : RenderState} {blank : Bool} {at n : ℕ} {widths : List ℕ} {held : ℕ}
@@ -228,17 +228,17 @@ module _ {file : List ℕ} {table : SignFile} {msg : List ℕ} {from : ℕ} {fir
       unfolding slice
       shorter = omega (arith, spoke .2 .len, size)
 
-      narrow : x .kind ≡ 0 → Narrow (codes (take (x .len) bytes))
+      narrow : x .kind ≡ 0 → CodesFit (codes (take (x .len) bytes))
       unfolding slice
       narrow k = spoken-narrow at bytes x (spoke .2 .spoken) k
 
-      pass-reads : Readable msg x
+      pass-reads : EntryIn msg x
       unfolding partCodes bytes
       pass-reads =
           record {
             inside = omega (arith, starts, shorter, past, more);
             small = z .asked .small;
-            narrow = λ k. rw (starts, ← take-take (x .len) (r - at) (drop at msg) shorter) (narrow k);
+            codes-fit = λ k. rw (starts, ← take-take (x .len) (r - at) (drop at msg) shorter) (narrow k);
           }
 
       pub pass-stores : Storable file table msg x held widths rows n
@@ -286,7 +286,7 @@ module _ {file : List ℕ} {table : SignFile} {msg : List ℕ} {from : ℕ} {fir
   -- the slice at a place
   pub pass-asks : ((i : ℕ) → Val.Fits w8 (getD file i 0)) → {at r : ℕ} → at < length msg → r ≡ at + sliceLen (drop at msg) → Sliced (table .config) msg at r
   pass-asks b {at} {r} h e =
-      let o : Opened file table = asked .opened in
+      let o : AcceptedTable file table = asked .opened in
       let a : Accepts file table = accepts file table (o .0) (λ i. omega (arith, b i)) (o .1) in
       record {
         more = h;
@@ -302,7 +302,7 @@ module _ {file : List ℕ} {table : SignFile} {msg : List ℕ} {from : ℕ} {fir
 
 pub stored-by : {file : List ℕ} {table : SignFile} {msg : List ℕ} {e : Entry} {rows : List ℕ} {n : ℕ} {widths′ rows′ : List ℕ} {held′ : ℕ} {row : Row}
     → row ≡ rowOf (meterIn file msg) e → RowPut rows n row rows′
-    → held′ ≡ e .state .font → Held file table (e .state .font) widths′
+    → held′ ≡ e .state .font → WidthsOf file table (e .state .font) widths′
     → Stored file table msg e rows n widths′ rows′ held′
 stored-by {rows = rows} {n = n} p d q w =
     record { row = d .put ∙ ap (putRow rows n) p; bytes = subst ByteFields p (d .bytes); font = q; kept = w; room = d .room }
@@ -310,10 +310,10 @@ stored-by {rows = rows} {n = n} p d q w =
 -- ---- the widths of a font
 
 module _ (file : List ℕ) (t : SignFile) (font r : ℕ) (e : r ≡ font) (widths : List ℕ) where
-  pub held-same : font < 256 → (held : ℕ) → (held < 256 → Held file t held widths) → held ≡ r → Held file t font widths
+  pub held-same : font < 256 → (held : ℕ) → (held < 256 → WidthsOf file t held widths) → held ≡ r → WidthsOf file t font widths
   held-same b held h q =
       let d : held ≡ font = q ∙ e in
-      subst (λ (n : ℕ). Held file t n widths) d (h (rw d b))
+      subst (λ (n : ℕ). WidthsOf file t n widths) d (h (rw d b))
 
 -- ---- a step
 

@@ -18,7 +18,7 @@ use Rattle.layout.specs.Read.{step, Scan, scan, Event, pass, close, stop, stopI
 use Rattle.page.specs.Scan.{itemsFrom}
 use Rattle.rows.specs.Rows.{RowRoom, rowsOf, putRow, ByteFields}
 use Rattle.rows.specs.Measured.{rowOf}
-use Rattle.meter.specs.Gauges.{Opened, Held, Readable, meterIn}
+use Rattle.meter.specs.Gauges.{AcceptedTable, WidthsOf, EntryIn, meterIn}
 use Rattle.pass.specs.declared.How.{How}
 use Rattle.pass.specs.declared.How.the-variants.{Cut as ByCut, Turn as ByTurn, End as ByEnd}
 use Rattle.pass.specs.declared.PassDone.{PassDone}
@@ -100,9 +100,9 @@ pub record Steps (c : Config) (msg : List ℕ) (st : RenderState) (blank : Bool)
 
 -- a span's row can be stored; the widths are those of the font held, if it is below 256
 pub record Storable (file : List ℕ) (table : SignFile) (msg : List ℕ) (e : Entry) (held : ℕ) (widths rows : List ℕ) (n : ℕ) : Type 0 where
-  pub opened : Opened file table
-  pub reads : Readable msg e
-  pub kept : held < 256 → Held file table held widths
+  pub opened : AcceptedTable file table
+  pub reads : EntryIn msg e
+  pub kept : held < 256 → WidthsOf file table held widths
   pub few : n < 2048
   pub room : RowRoom (n + 1) rows
 
@@ -111,12 +111,12 @@ pub record Stored (file : List ℕ) (table : SignFile) (msg : List ℕ) (e : Ent
   pub row : rows′ ≡ putRow rows n (rowOf (meterIn file msg) e)
   pub bytes : ByteFields (rowOf (meterIn file msg) e)
   pub font : held′ ≡ e .state .font
-  pub kept : Held file table (e .state .font) widths′
+  pub kept : WidthsOf file table (e .state .font) widths′
   pub room : length rows′ ≡ length rows
 
 -- a message for an accepted file, from a place on, with room for its rows
 pub record PassAsked (file : List ℕ) (table : SignFile) (msg : List ℕ) (from : ℕ) (first : RenderState) (rows : List ℕ) : Type 0 where
-  pub opened : Opened file table
+  pub opened : AcceptedTable file table
   pub small : length msg ≤ 2048
   pub within : from ≤ length msg
   pub rowed : RowRoom (length msg) rows

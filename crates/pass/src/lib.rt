@@ -2,7 +2,7 @@
 ghost use mathlib.Core.Path.{_≡_};
 ghost use Prim.Native.Nat.{_≤_, _<_};
 ghost use Rattle.layout.specs.Read.{itemStep};
-ghost use Rattle.meter.specs.Gauges.{Held};
+ghost use Rattle.meter.specs.Gauges.{WidthsOf};
 ghost use Rattle.pass.specs.Pass.{doneBy, Sliced, Steps, Storable, Stored, PassAsked, PassRead};
 use layout::Entry;
 use layout::Rect;
@@ -68,8 +68,8 @@ fn step_at(msg: &[u8], at: usize, end: usize, c: Config, st: RenderState, blank:
 
 // Fills the widths anew if they are not the font's. Held, and answered, is the font whose widths they are; 256 is none.
 fn keep(file: &[u8], table: SignFile, font: u8, held: u16, widths: &mut [u16; 256]) -> u16
-    requires { ⌜ (held < 256 → Held (now file) table held (now widths)) ⌝ }
-    ensures { λ r. ⌜ (r ≡ font) × Held (now (file .entry)) table font (now (widths .exit)) ⌝ }
+    requires { ⌜ (held < 256 → WidthsOf (now file) table held (now widths)) ⌝ }
+    ensures { λ r. ⌜ (r ≡ font) × WidthsOf (now (file .entry)) table font (now (widths .exit)) ⌝ }
 {
     let wanted = base::wide16(font);
     if held == wanted {

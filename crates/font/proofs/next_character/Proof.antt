@@ -18,5 +18,12 @@ next-character-spec =
     (λ c. search (next-ways, needs) depth 6)  -- part-body-end
     (λ c κs. search needs)  -- le16-requires
     (λ c κs. search needs)  -- byte-at-requires
-    (λ c. omega (arith, span-from _ _ _ (c .before .before .before .before .before .before .before .record-at .ensures) _ _ _ (c .before .before .before .before .before .kind .given .1), span-to _ _ _ (c .before .before .before .before .before .before .before .record-at .ensures) _ _ _ (c .before .before .before .before .before .kind .given .1)))  -- add-t10
+    (λ c.
+    let a : tie.After-record-at = search in
+    let k : tie.After-kind = search in
+    omega (
+      arith,
+      span-from _ _ _ (a .record-at .ensures) _ _ _ (k .kind .given .1),
+      span-to _ _ _ (a .record-at .ensures) _ _ _ (k .kind .given .1),
+    ))  -- add-t10
     (λ c. search (next-ways, needs) depth 6))  -- returns-3

@@ -1,19 +1,15 @@
 use borrow.Author.Needs.{needs}
-use Prim.Native.Nat.{_-_, _*_, _≤_}
+use Prim.Native.Nat.{_-_}
 use native.Mathlib.Omega.{arith}
-use mathlib.Core.Path.{_≡_}
-use lib.ListN.{length, drop}
-use Rattle.utf8.specs.Utf8.{codes}
+use lib.ListN.{length}
 use Rattle.utf8.proofs.Laws.{code-len}
 use Rattle.font.specs.Character.{charactersAt}
-use Rattle.font.specs.Measure.{widthAfter, textWidth}
-use Rattle.font.proofs.Texts.{width-ways, width-start}
+use Rattle.font.proofs.Texts.{Measuring, width-ways}
 use Rattle.font.proofs.short_width.Statement.{statement}
 use Rattle.font.proofs.short_width.Tie as tie
 
 abbrev Inv-loop : tie.InvT-loop
-Inv-loop file entry table text spacing w₀ at₀ w at =
-    (w ≤ 65790 * at) × (widthAfter (charactersAt file entry) spacing w (codes (drop at text)) ≡ textWidth (charactersAt file entry) spacing (codes text))
+Inv-loop file entry table text spacing w₀ at₀ w at = Measuring (charactersAt file entry) spacing text w at
 
 abbrev μ-loop : tie.MeasureT-loop
 μ-loop file entry table text spacing w₀ at₀ w at = length text - at
@@ -23,13 +19,13 @@ short-width-spec =
     tie.close (tie.spec
     Inv-loop
     μ-loop
-    (λ c. search (width-start, needs))  -- loop-holds
+    (λ c. search width-ways)  -- loop-holds
     (λ c κs. search needs)  -- code-at-requires
-    (λ c κs. search needs)  -- with-character-requires
+    (λ c κs. search (width-ways, needs) depth 6)  -- with-character-requires
     (λ c. search needs)  -- enum-known-v
     (λ c. search needs)  -- enum-told
     (λ c. search (width-ways, needs) depth 6)  -- returns
     (λ c. let a : tie.After-code-at Inv-loop μ-loop = search in omega (arith, code-len _ _ _ (a .code-at .ensures)))  -- add-at
     (λ c. search (width-ways, needs) depth 6)  -- loop-less
-    (λ c. (search (width-ways, needs) depth 8, search (width-ways, needs) depth 8))  -- loop-again
+    (λ c. search (width-ways, needs) depth 8)  -- loop-again
     (λ c. search (width-ways, needs) depth 6))  -- returns-2

@@ -1,6 +1,3 @@
-use Prim.Native.Nat.{ℕ}
-use mathlib.Core.Path.{_∙_, ap}
-use Rattle.layout.specs.Types.{given}
 use Rattle.meter.proofs.Laws.{gauge-is}
 use borrow.Author.Needs.{needs}
 use Rattle.meter.proofs.gauge_in.Statement.{statement}
@@ -17,4 +14,14 @@ gauge-in-spec =
     (λ c κs. search needs)  -- wide16-requires-2
     (λ c κs. search needs)  -- wide16-requires-3
     (λ c κs. search needs)  -- width-of-requires
-    (λ c. gauge-is (c .before .before .before .before .before .before .before .before .before .before .before .before .args .file .now) (c .before .before .before .before .before .before .before .before .before .before .before .before .args .msg .now) (c .before .before .before .before .before .before .before .before .before .before .before .before .args .e) (c .before .before .before .before .before .before .before .before .before .before .before .before .args .f) _ _ _ _ _ _ _ (c .before .before .before .before .before .before .given .ensures ∙ ap (λ (d : ℕ). given (c .before .before .before .before .before .before .before .before .before .before .before .before .args .e .state .«char_spacing») d) (c .before .before .before .before .before .before .before .wide16 .ensures .0)) (c .before .before .before .before .before .span-width .ensures .0) (c .before .before .before .before .version-number .ensures) (c .before .before .before .fault-by .ensures) (c .width-of .ensures) (c .before .before .wide162 .ensures .0) (c .before .wide163 .ensures .0)))  -- returns
+    (λ c.
+    let a : tie.Start = search in
+    let d : tie.After-wide16 = search in
+    let s : tie.After-given = search in
+    let m : tie.After-span-width = search in
+    let n : tie.After-version-number = search in
+    let x : tie.After-fault-by = search in
+    let h : tie.After-wide162 = search in
+    let l : tie.After-wide163 = search in
+    gauge-is (a .args .file .now) (a .args .msg .now) (a .args .e) (a .args .f) (d .wide16 .ensures .0) (s .given .ensures)
+    (m .span-width .ensures) (n .version-number .ensures) (x .fault-by .ensures) (h .wide162 .ensures .0) (l .wide163 .ensures .0) (c .width-of .ensures)))  -- returns

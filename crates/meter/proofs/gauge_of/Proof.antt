@@ -1,5 +1,4 @@
-use native.Mathlib.Omega.{arith}
-use Rattle.meter.proofs.Laws.{gauge-found, gauge-absent, entry-font, entry-none, held-here}
+use Rattle.meter.proofs.Laws.{gauge-entry, gauge-absent, widths-here}
 use borrow.Author.Needs.{needs}
 use Rattle.meter.proofs.gauge_of.Statement.{statement}
 use Rattle.meter.proofs.gauge_of.Tie as tie
@@ -9,8 +8,18 @@ gauge-of-spec =
     tie.close (tie.spec
     (λ c κs. search needs)  -- font-numbered-requires
     (λ c. search needs)  -- enum-known-f
-    (λ c κs. search (held-here, needs) depth 6)  -- gauge-in-requires
+    (λ c κs. search (widths-here, needs) depth 6)  -- gauge-in-requires
     (λ c. search needs)  -- enum-told
     (λ c κs. search needs)  -- no-font-requires
-    (λ c. gauge-found _ _ _ _ (entry-font _ _ (λ i. omega (arith, c .before .before .before .before .before .before .before .before .shared-slice-known .given i)) (c .before .before .before .before .before .before .before .before .before .pre .0 .0) _ _ (c .before .before .before .before .font-numbered .ensures) _ (c .before .before .f .given .1)) _ (c .gauge-in .ensures))  -- returns
-    (λ c. gauge-absent _ _ _ _ (entry-none _ _ (λ i. omega (arith, c .before .before .before .before .before .before .before .shared-slice-known .given i)) (c .before .before .before .before .before .before .before .before .pre .0 .0) _ _ (c .before .before .before .font-numbered .ensures) (c .before .enum-told .given .1)) (c .no-font .ensures)))  -- returns-2
+    (λ c.
+    let n : tie.After-font-numbered = search in
+    let f : tie.After-f = search in
+    let a : tie.Start = search in
+    gauge-entry (a .args .file .now) (a .args .msg .now) (a .args .e) (a .args .table) (n .font-numbered .ensures) _ (f .f .given .1)
+    (c .gauge-in .ensures) (search) (search))  -- returns
+    (λ c.
+    let n : tie.After-font-numbered = search in
+    let f : tie.After-enum-told = search in
+    let a : tie.Start = search in
+    gauge-absent (a .args .file .now) (a .args .msg .now) (a .args .e) (a .args .table) (n .font-numbered .ensures) (f .enum-told .given .1)
+    (c .no-font .ensures) (search) (search)))  -- returns-2

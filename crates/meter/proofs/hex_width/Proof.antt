@@ -7,4 +7,4 @@ pub hex-width-spec : {M : Type 1} → statement M
 hex-width-spec =
     tie.close (tie.spec
     (λ c κs. search needs)  -- with-character-requires
-    (λ c. hex-alone _ _ _ _ (search needs) (c .with-character .ensures .0)))  -- returns
+    (λ c. search (hex-alone, needs)))  -- returns

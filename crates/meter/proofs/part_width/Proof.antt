@@ -1,5 +1,4 @@
 use Rattle.meter.proofs.Laws.{part-text}
-use native.Mathlib.Omega.{arith}
 use borrow.Author.Needs.{needs}
 use Rattle.meter.proofs.part_width.Statement.{statement}
 use Rattle.meter.proofs.part_width.Tie as tie
@@ -14,4 +13,4 @@ part-width-spec =
     (λ c. search needs)  -- part-text-width-start
     (λ c. search needs)  -- part-text-width-end
     (λ c κs. search needs)  -- text-width-requires
-    (λ c. let s : tie.Start = search in part-text _ _ _ (s .args .e) _ (omega (arith, s .pre .1 .0, s .pre .1 .1)) (c .text-width .ensures) (s .pre .1 .2)))  -- returns
+    (λ c. let s : tie.Start = search in part-text _ _ _ _ _ (s .pre .1 .0) (s .pre .1 .1) (c .text-width .ensures)))  -- returns
