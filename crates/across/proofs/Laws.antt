@@ -11,7 +11,7 @@ use Rattle.base.specs.Pick.{pick}
 use Rattle.value.specs.declared.OptNum.{OptNum}
 use Rattle.value.specs.declared.OptNum.the-variants.{Some, None}
 use Rattle.layout.specs.declared.Entry.{Entry}
-use Rattle.layout.specs.Types.{given, Meter}
+use Rattle.layout.specs.Types.{unwrapOr, Meter}
 use Rattle.layout.specs.Place.{orElse, firstFault, keep, select, same, due, gap, before, after}
 use Rattle.rows.specs.declared.Fault.{Fault}
 use Rattle.rows.specs.declared.Row.{Row}
@@ -117,7 +117,7 @@ module _ (m : Meter) (p : RowTells m) where
   Follows o none = o .seen ≡ false
   Follows o (some q) = (o .seen ≡ true) × (o .spacing ≡ m .spacing q)
 
-  due-is : (e : Entry) (h : ℕ) (s : OptNum) → e .state .«char_spacing» ≡ s → pick (eqb (flag s) 1) (m .spacing e) h ≡ given s h
+  due-is : (e : Entry) (h : ℕ) (s : OptNum) → e .state .«char_spacing» ≡ s → pick (eqb (flag s) 1) (m .spacing e) h ≡ unwrapOr s h
   due-is e h None k = refl
   due-is e h (Some n) k = p .spaced e n k
 

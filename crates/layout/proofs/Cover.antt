@@ -22,7 +22,7 @@ use Rattle.records.specs.declared.Config.{Config}
 use Rattle.layout.specs.declared.Rect.{Rect}
 use Rattle.layout.specs.declared.RenderState.{RenderState}
 use Rattle.layout.specs.declared.Entry.{Entry}
-use Rattle.layout.specs.Types.{Item, placeOf, given}
+use Rattle.layout.specs.Types.{Item, placeOf, unwrapOr}
 use Rattle.layout.specs.Demand.{In, here, there, Role, text, hexadecimal, rectangle, pageJust, newPage as pageRole, other, roleOf, roleIn, Reads, rectAfter, justAfter, printedBy}
 use Rattle.layout.specs.declared.Step.{Step}
 use Rattle.layout.specs.declared.Step.the-variants.{Refuse, Go, Emit, Cut, Turn}
@@ -128,7 +128,7 @@ rect-grid s r q =
     let (a, d) = and-true (fits (r .left) (r .width) (s .width) (s .«char_width»)) (fits (r .top) (r .height) (s .height) (s .«char_height»)) q in
     record { across = fits-grid (r .left) (r .width) (s .width) (s .«char_width») a; down = fits-grid (r .top) (r .height) (s .height) (s .«char_height») d }
 
-just-given : (j : OptNum) (d n : ℕ) → justified j d ≡ Some n → given j d ≡ n
+just-given : (j : OptNum) (d n : ℕ) → justified j d ≡ Some n → unwrapOr j d ≡ n
 just-given None d n e = cc
 just-given (Some k) d n e = go (leb 2 k) (leb k 4) e
   where
@@ -189,7 +189,7 @@ module _ (s : Config) (st : RenderState) (blank : Bool) (it : Item) where
   value-within (ManufacturerSpecificEnd m p) h = plain (ManufacturerSpecificEnd m p) st refl refl refl
   value-within (MovingText m d t) h = plain (MovingText m d t) st refl refl refl
   value-within (NewLine l) h =
-      pick-all (ValueWithin s st it (NewLine l)) (above0 (s .«char_height») (given l 0)) (λ _. refused 6 (omega arith))
+      pick-all (ValueWithin s st it (NewLine l)) (above0 (s .«char_height») (unwrapOr l 0)) (λ _. refused 6 (omega arith))
       (λ _. pick-all (ValueWithin s st it (NewLine l)) (ltb (st .line) 255) (λ _. line-within l blank) (λ _. refused 8 (omega arith)))
   value-within NewPage h = (record { reads = tt; prints = refl; rect = refl; just = refl }, refl)
   value-within (PageBackground c) h = plain (PageBackground c) st refl refl refl

@@ -25,7 +25,7 @@ use Rattle.layout.specs.declared.Answer.{Answer}
 use Rattle.layout.specs.declared.Answer.the-variants.{On, Off, End, Refused}
 use Rattle.layout.specs.declared.Rect.{Rect}
 use Rattle.layout.specs.declared.Entry.{Entry}
-use Rattle.layout.specs.Types.{Item, items, given, Board}
+use Rattle.layout.specs.Types.{Item, items, unwrapOr, Board}
 use Rattle.font.specs.declared.Measure.the-variants.{Width}
 use Rattle.font.specs.Table.{fontNumbered}
 use Rattle.font.specs.Measure.{textWidth}
@@ -182,7 +182,7 @@ abbrev pub justAfter : Config → ℕ → Role → ℕ
 justAfter s j (text p) = j
 justAfter s j hexadecimal = j
 justAfter s j (rectangle q) = j
-justAfter s j (pageJust n) = given n (s .«page_just»)
+justAfter s j (pageJust n) = unwrapOr n (s .«page_just»)
 justAfter s j newPage = j
 justAfter s j other = j
 
@@ -219,7 +219,7 @@ pub record Tells (r : Rect) (e : Entry) (q : Span) : Type 0 where
 pub record Measured (msg : List ℕ) (fs : List SignFont) (e : Entry) (q : Span) : Type 0 where
   pub font : SignFont
   pub found : fontNumbered (e .state .font) fs ≡ some font
-  pub width : textWidth (font .characters) (given (e .state .«char_spacing») (font .charSpacing)) (charsOf msg e) ≡ Width (q .width)
+  pub width : textWidth (font .characters) (unwrapOr (e .state .«char_spacing») (font .charSpacing)) (charsOf msg e) ≡ Width (q .width)
   pub height : q .height ≡ font .height
 
 -- "the character height is 0 or divides every font height"

@@ -15,7 +15,7 @@ use Rattle.utf8.specs.Utf8.{codes}
 use Rattle.value.specs.declared.OptNum.{OptNum}
 use Rattle.value.specs.declared.OptNum.the-variants.{Some, None}
 use Rattle.layout.specs.declared.Entry.{Entry}
-use Rattle.layout.specs.Types.{given, Meter, Board}
+use Rattle.layout.specs.Types.{unwrapOr, Meter, Board}
 
 -- 11: "Font version id differs", where the state has one
 abbrev pub versionFault : OptNum → Font → Option (ℕ × ℕ)
@@ -44,8 +44,8 @@ module _ (msg : List ℕ) (e : Entry) where
 
   -- "a span's spacing is its [sc] value, or its font's where none holds"
   abbrev pub spacingIn : Option Font → ℕ
-  spacingIn none = given (e .state .«char_spacing») 0
-  spacingIn (some f) = given (e .state .«char_spacing») (f .charSpacing)
+  spacingIn none = unwrapOr (e .state .«char_spacing») 0
+  spacingIn (some f) = unwrapOr (e .state .«char_spacing») (f .charSpacing)
 
   -- "Font measure", of what the span prints
   unfoldable pub measureIn : Font → Measure

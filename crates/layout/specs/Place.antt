@@ -11,7 +11,7 @@ use Rattle.value.specs.declared.OptNum.{OptNum}
 use Rattle.value.specs.declared.OptNum.the-variants.{Some, None}
 use Rattle.layout.specs.declared.Rect.{Rect}
 use Rattle.layout.specs.declared.Entry.{Entry}
-use Rattle.layout.specs.Types.{given, Meter, Board}
+use Rattle.layout.specs.Types.{unwrapOr, Meter, Board}
 use Rattle.refusal.specs.Refusals.{refusal}
 use Rattle.layout.specs.Read.{unit}
 
@@ -61,7 +61,7 @@ samePage r e = eqb (r .state .«just_page») (e .state .«just_page»)
 -- "The spacing due before a span that isn't its group's first is its own [sc] value if one holds, otherwise half the sum of the spacings of the
 -- span before it and its own, rounded up" (`char_spacing_between`); as render.rs has it, NTCIP 1203, fontCharSpacing, says "of the two fonts"
 unfoldable pub due : Meter → Entry → Entry → ℕ
-due m p e = given (e .state .«char_spacing») (halfUp (m .spacing p + m .spacing e))
+due m p e = unwrapOr (e .state .«char_spacing») (halfUp (m .spacing p + m .spacing e))
 
 abbrev pub gap : Meter → Option Entry → Entry → ℕ
 gap m none e = 0
@@ -115,7 +115,7 @@ lines m ls (e ∷ es) = lines m (addLine (e .state .line) (lineOf m e) ls) es
 -- the spacing above a line: none on a sign with a character height; else NTCIP 1203, fontLineSpacing, as render.rs has it: "the average of the 2
 -- line spacings of each line, rounded up to the nearest whole pixel"
 unfoldable pub lineGap : ℕ → Line → Line → ℕ
-lineGap zero p l = given (l .lineSpacing) (halfUp (p .fontSpacing + l .fontSpacing))
+lineGap zero p l = unwrapOr (l .lineSpacing) (halfUp (p .fontSpacing + l .fontSpacing))
 lineGap (suc c) p l = 0
 
 abbrev pub gapAbove : ℕ → Option Line → Line → ℕ

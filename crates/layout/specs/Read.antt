@@ -25,7 +25,7 @@ use Rattle.layout.specs.declared.Mark.{Mark}
 use Rattle.layout.specs.declared.Mark.the-variants.{Plain, Ends, Timed, Wrong}
 use Rattle.layout.specs.declared.Step.{Step}
 use Rattle.layout.specs.declared.Step.the-variants.{Refuse, Go, Emit, Cut, Turn}
-use Rattle.layout.specs.Types.{Item, placeOf, given}
+use Rattle.layout.specs.Types.{Item, placeOf, unwrapOr}
 use Rattle.refusal.specs.Refusals.{refusal}
 
 -- ---- a page's scan
@@ -78,7 +78,7 @@ pub record Scan : Type 0 where
 abbrev pub scanBy : Config → ℕ → ℕ → Item → Mark → (ℕ → ℕ → Scan) → Scan
 scanBy s a b it Plain next = next a b
 scanBy s a b it Ends next = record { on = a; off = b; fault = none }
-scanBy s a b it (Timed p q) next = next (given p (s .«on_time»)) (given q (s .«off_time»))
+scanBy s a b it (Timed p q) next = next (unwrapOr p (s .«on_time»)) (unwrapOr q (s .«off_time»))
 scanBy s a b it (Wrong n) next = record { on = a; off = b; fault = some (refusalAt (placeOf it) n) }
 
 abbrev pub scan : Config → ℕ → ℕ → List Item → Scan
@@ -173,7 +173,7 @@ above0 a b = ltb 0 a && ltb 0 b
 -- 8: "The 256th line end .. since its number restarted"
 abbrev pub newLineStep : Config → RenderState → Bool → Place → OptNum → Step
 newLineStep s st blank at ls =
-    pick (above0 (s .«char_height») (given ls 0)) (Refuse (refusalAt at 6))
+    pick (above0 (s .«char_height») (unwrapOr ls 0)) (Refuse (refusalAt at 6))
     (pick (ltb (st .line) 255) (lineStep at st ls blank) (Refuse (refusalAt at 8)))
 
 abbrev pub spacingStep : Config → RenderState → Bool → Place → ℕ → Step

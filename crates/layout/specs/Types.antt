@@ -31,9 +31,9 @@ unfoldable pub items : List ℕ → List Item
 items msg = map itemAt (slices msg)
 
 -- the number of an option, or d where there is none
-abbrev pub given : OptNum → ℕ → ℕ
-given None d = d
-given (Some n) d = n
+abbrev pub unwrapOr : OptNum → ℕ → ℕ
+unwrapOr None d = d
+unwrapOr (Some n) d = n
 
 -- what the fonts say of a span: number and detail of the first of refusals 10 to 12 that it meets, of 10 and 11 alone, and its measures
 pub record Meter : Type 0 where

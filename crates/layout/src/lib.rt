@@ -1,7 +1,7 @@
 // What the code of a listing and its definitions share.
 ghost use mathlib.Core.Path.{_≡_};
 ghost use Prim.Native.Nat.{_<_};
-ghost use Rattle.layout.specs.Types.{given as givenOf};
+ghost use Rattle.layout.specs.Types.{unwrapOr};
 ghost use Rattle.layout.specs.Read.{withSpan, withJustLine, withJustPage, withLine, withCharSpacing, withFont, withRect, unit as unitOf, whole as wholeOf, newPage, start as startOf};
 use records::Config;
 use refusal::Refusal;
@@ -85,8 +85,8 @@ pub enum Answer {
 }
 
 // The number of an option, or d where there is none.
-pub fn given(o: OptNum, d: u16) -> u16
-    ensures { λ r. ⌜ r ≡ givenOf o d ⌝ }
+pub fn unwrap_or(o: OptNum, d: u16) -> u16
+    ensures { λ r. ⌜ r ≡ unwrapOr o d ⌝ }
 {
     match o {
         OptNum::Some(n) => n,

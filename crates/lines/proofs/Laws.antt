@@ -8,12 +8,12 @@ use Rattle.base.specs.Pick.{pick}
 use Rattle.value.specs.declared.OptNum.{OptNum}
 use Rattle.value.specs.declared.OptNum.the-variants.{Some, None}
 use Rattle.layout.specs.declared.Entry.{Entry}
-use Rattle.layout.specs.Types.{given, Meter}
+use Rattle.layout.specs.Types.{unwrapOr, Meter}
 use Rattle.layout.specs.Place.{Line, addLine, lineOf, lines, orElse, firstFault, keep, select, samePage}
 use Rattle.rows.specs.Measured.{flag, rowOf, faultOf, fontNumber, faultNumber, faultDetail, RowTells}
 use Rattle.lines.specs.Lines.{optOf, rowLine, linesFrom, rowFault, fontFaultFrom}
 
-opt-same : (o : OptNum) → optOf (flag o) (given o 0) ≡ o
+opt-same : (o : OptNum) → optOf (flag o) (unwrapOr o 0) ≡ o
 opt-same None = refl
 opt-same (Some n) = refl
 

@@ -36,7 +36,7 @@ use Rattle.font.specs.declared.Measure.the-variants.{Width, Missing}
 use Rattle.font.specs.Measure.{widened, withWidth, widthAfter, textWidth}
 use Rattle.font.specs.Grown.{OneMore}
 use Rattle.layout.specs.declared.Entry.{Entry}
-use Rattle.layout.specs.Types.{given, Meter}
+use Rattle.layout.specs.Types.{unwrapOr, Meter}
 use Rattle.layout.specs.Fonts.{versionFault, charsOf, widthOf, measureIn, charFaultAfter, faultIn, meterOf}
 use Rattle.rows.specs.declared.Row.{Row}
 use Rattle.rows.specs.Measured.{flag, faultNumber, faultDetail, gaugeOf, rowBy, rowOf}
@@ -150,9 +150,9 @@ fault-parts msg e f (Some n) m q = go (eqb n (f .version)) m q
 -- `gauge_in`: what its calls answered
 module _ (file msg : List ℕ) (e : Entry) (f : FontEntry) where
   abbrev spacingBy : ℕ → ℕ
-  spacingBy = given (e .state .«char_spacing»)
+  spacingBy = unwrapOr (e .state .«char_spacing»)
 
-  pub gauge-is : {d s h l w n : ℕ} {m : Measure} {x : Fault} → d ≡ f .«char_spacing» → s ≡ given (e .state .«char_spacing») d
+  pub gauge-is : {d s h l w n : ℕ} {m : Measure} {x : Fault} → d ≡ f .«char_spacing» → s ≡ unwrapOr (e .state .«char_spacing») d
       → WidthFound (charactersAt file f) s (charsOf msg e) m → n ≡ versionNumber (e .state .version) (f .«version_id») → x ≡ faultBy n m
       → h ≡ f .height → l ≡ f .«line_spacing» → w ≡ widthOf m
       → record { spacing = s; height = h; «font_spacing» = l; width = w; fault = x .number; detail = x .detail }
@@ -273,10 +273,10 @@ made e g jp jl f l n x d w =
 
 pub row-fields : (e : Entry) (g : Gauge) (jp jl f l n x d w : ℕ) → jp ≡ e .state .«just_page» → jl ≡ e .state .«just_line» → f ≡ e .state .font
     → l ≡ e .state .line → n ≡ e .state .span → x ≡ flag (e .state .«char_spacing») → d ≡ flag (e .state .«line_spacing»)
-    → w ≡ given (e .state .«line_spacing») 0 → made e g jp jl f l n x d w ≡ rowBy e g
+    → w ≡ unwrapOr (e .state .«line_spacing») 0 → made e g jp jl f l n x d w ≡ rowBy e g
 row-fields e g jp jl f l n x d w a b c h i j k m = rw (a, b, c, h, i, j, k, m)
 
-pub none-fields : (e : Entry) (s d : ℕ) → s ≡ given (e .state .«char_spacing») 0 → d ≡ e .state .font
+pub none-fields : (e : Entry) (s d : ℕ) → s ≡ unwrapOr (e .state .«char_spacing») 0 → d ≡ e .state .font
     → record { spacing = s; height = 0; «font_spacing» = 0; width = 0; fault = 10; detail = d } ≡ gaugeFor [] e none
 unfolding gaugeFor
 none-fields e s d a b = rw (a, b)

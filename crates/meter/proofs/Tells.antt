@@ -13,7 +13,7 @@ use Rattle.font.specs.Table.{fontNumbered}
 use Rattle.font.specs.declared.Measure.{Measure}
 use Rattle.font.specs.declared.Measure.the-variants.{Width, Missing}
 use Rattle.layout.specs.declared.Entry.{Entry}
-use Rattle.layout.specs.Types.{given}
+use Rattle.layout.specs.Types.{unwrapOr}
 use Rattle.layout.specs.Fonts.{versionFault, missing, measureIn, fontFaultIn, spacingIn, charFaultAfter, faultIn, meterOf}
 use Rattle.rows.specs.Measured.{faultNumber, faultDetail, faultOf, fontNumber, RowTells}
 use Rattle.meter.specs.Gauges.{fontsIn, meterIn}
@@ -42,7 +42,7 @@ module _ (msg : List ℕ) (e : Entry) where
       go true = missing-parts (measureIn msg e f)
       go false = record { whole = refl; font = refl }
 
-  spacing-none : (cs : OptNum) (n d : ℕ) → cs ≡ Some n → given cs d ≡ n
+  spacing-none : (cs : OptNum) (n d : ℕ) → cs ≡ Some n → unwrapOr cs d ≡ n
   spacing-none cs n d p = rw p
 
   right : (o : Option Font) → Right o

@@ -130,7 +130,7 @@ fn gauge_in(file: &[u8], f: FontEntry, widths: &[u16], msg: &[u8], e: Entry) -> 
     let st = e.state;
     let char_spacing = st.char_spacing;
     let version = st.version;
-    let spacing = layout::given(char_spacing, base::wide16(f.char_spacing));
+    let spacing = layout::unwrap_or(char_spacing, base::wide16(f.char_spacing));
     let m = span_width(file, f, widths, msg, e, spacing);
     let fault = fault_by(version_number(version, f.version_id), m);
     Gauge {
@@ -150,7 +150,7 @@ fn no_font(e: Entry) -> Gauge
     let st = e.state;
     let char_spacing = st.char_spacing;
     Gauge {
-        spacing: layout::given(char_spacing, 0),
+        spacing: layout::unwrap_or(char_spacing, 0),
         height: 0,
         font_spacing: 0,
         width: 0,
@@ -204,7 +204,7 @@ fn row_by(e: Entry, g: Gauge) -> Row
         fixed: flag(char_spacing),
         spacing: g.spacing,
         led: flag(line_spacing),
-        lead: layout::given(line_spacing, 0),
+        lead: layout::unwrap_or(line_spacing, 0),
         height: g.height,
         font_spacing: g.font_spacing,
         fault: g.fault,

@@ -21,14 +21,14 @@ use Rattle.reading.specs.Reading.{place, itemOf}
 use Rattle.records.specs.declared.Config.{Config}
 use Rattle.layout.specs.declared.Mark.{Mark}
 use Rattle.layout.specs.declared.Mark.the-variants.{Plain, Ends, Timed, Wrong}
-use Rattle.layout.specs.Types.{Item, itemAt, given}
+use Rattle.layout.specs.Types.{Item, itemAt, unwrapOr}
 use Rattle.refusal.specs.Refusals.{refusal}
 use Rattle.layout.specs.Read.{Scan, tagged, markOf, markItem, scanBy, scan}
 use Rattle.refusal.specs.declared.OptRefusal.the-variants.{Some, None}
 use Rattle.page.specs.declared.PageScan.{PageScan}
-use Rattle.page.specs.declared.Turn.{Turn}
-use Rattle.page.specs.declared.Turn.the-variants.{On, Stop}
-use Rattle.page.specs.Scan.{told, ended, turnBy, turnAt, itemsFrom}
+use Rattle.page.specs.declared.Look.{Look}
+use Rattle.page.specs.declared.Look.the-variants.{On, Stop}
+use Rattle.page.specs.Scan.{told, ended, lookBy, lookAt, itemsFrom}
 
 -- a tag's support: t is its bit, s whether the sign has it
 module _ (tags : ℕ) (v : Value) (m : Mark) (t : OptTag) (e : t ≡ tagOf v) (s : Bool) (f : s ≡ hasTag tags t) where
@@ -67,39 +67,39 @@ pub ruleset marks = (marked, text-marked, said-marked, wrong-marked)
 
 -- a mark that is known
 module _ (c : Config) (a b : ℕ) (p : Place) (m : Mark) where
-  pub turn-plain : m ≡ Plain → On a b ≡ turnBy c a b p m
-  turn-plain e = rw e
+  pub look-plain : m ≡ Plain → On a b ≡ lookBy c a b p m
+  look-plain e = rw e
 
-  pub turn-ends : m ≡ Ends → ended a b None ≡ turnBy c a b p m
-  turn-ends e = rw e
+  pub look-ends : m ≡ Ends → ended a b None ≡ lookBy c a b p m
+  look-ends e = rw e
 
-  pub turn-timed : (x y : OptNum) (k l : ℕ) → m ≡ Timed x y → k ≡ given x (c .«on_time») → l ≡ given y (c .«off_time»)
-      → On k l ≡ turnBy c a b p m
-  turn-timed x y k l e f g = rw (e, f, g)
+  pub look-timed : (x y : OptNum) (k l : ℕ) → m ≡ Timed x y → k ≡ unwrapOr x (c .«on_time») → l ≡ unwrapOr y (c .«off_time»)
+      → On k l ≡ lookBy c a b p m
+  look-timed x y k l e f g = rw (e, f, g)
 
-  pub turn-wrong : (n : ℕ) → m ≡ Wrong n → ended a b (Some (refusal n (p .start) (p .len) 0)) ≡ turnBy c a b p m
-  turn-wrong n e = rw e
+  pub look-wrong : (n : ℕ) → m ≡ Wrong n → ended a b (Some (refusal n (p .start) (p .len) 0)) ≡ lookBy c a b p m
+  look-wrong n e = rw e
 
-pub ruleset turns = (turn-plain, turn-ends, turn-timed, turn-wrong)
+pub ruleset looks = (look-plain, look-ends, look-timed, look-wrong)
 
 -- one item
 module _ (c : Config) (a b : ℕ) (it : Item) (next : ℕ → ℕ → Scan) where
-  stop-mark : (m : Mark) (s : PageScan) → turnBy c a b (place (it .start) (it .len)) m ≡ Stop s → told s ≡ scanBy c a b it m next
+  stop-mark : (m : Mark) (s : PageScan) → lookBy c a b (place (it .start) (it .len)) m ≡ Stop s → told s ≡ scanBy c a b it m next
   stop-mark Plain s e = absurd (let z : _≡_ {A = ℕ} 0 1 = cc in omega arith)
   stop-mark Ends s e = let k : s ≡ record { on = a; off = b; fault = None } = cc in ap told k
   stop-mark (Timed p q) s e = absurd (let z : _≡_ {A = ℕ} 0 1 = cc in omega arith)
   stop-mark (Wrong n) s e =
       let k : s ≡ record { on = a; off = b; fault = Some (refusal n (it .start) (it .len) 0) } = cc in ap told k
 
-  on-mark : (m : Mark) (p q : ℕ) → turnBy c a b (place (it .start) (it .len)) m ≡ On p q → next p q ≡ scanBy c a b it m next
+  on-mark : (m : Mark) (p q : ℕ) → lookBy c a b (place (it .start) (it .len)) m ≡ On p q → next p q ≡ scanBy c a b it m next
   on-mark Plain p q e = cc
   on-mark Ends p q e = absurd (let z : _≡_ {A = ℕ} 0 1 = cc in omega arith)
   on-mark (Timed x y) p q e = cc
   on-mark (Wrong n) p q e = absurd (let z : _≡_ {A = ℕ} 0 1 = cc in omega arith)
 
--- a place's slice: t is what `turn_at` answered, r what `slice_end` did
+-- a place's slice: t is what `look_at` answered, r what `slice_end` did
 module _ (c : Config) (a b at : ℕ) (l : List ℕ) (h : at < length l) (r : ℕ) (e : r ≡ at + sliceLen (drop at l))
-    (t : Turn) (f : t ≡ turnAt c a b at (take (r - at) (drop at l))) where
+    (t : Look) (f : t ≡ lookAt c a b at (take (r - at) (drop at l))) where
   slice : Slice
   slice = record { start = at; bytes = take (r - at) (drop at l) }
 
@@ -114,11 +114,11 @@ module _ (c : Config) (a b at : ℕ) (l : List ℕ) (h : at < length l) (r : ℕ
   later x y = scan c x y (itemsFrom r l)
 
   stop-here : (s : PageScan) → t ≡ Stop s → told s ≡ scan c a b (itemsFrom at l)
-  unfolding turnAt slice mark later
+  unfolding lookAt slice mark later
   stop-here s p = stop-mark c a b (itemAt slice) later mark s (sym f ∙ p) ∙ ap (scan c a b) (sym from-next)
 
   on-here : (p q : ℕ) → t ≡ On p q → scan c p q (itemsFrom r l) ≡ scan c a b (itemsFrom at l)
-  unfolding turnAt slice mark later
+  unfolding lookAt slice mark later
   on-here p q k = on-mark c a b (itemAt slice) later mark p q (sym f ∙ k) ∙ ap (scan c a b) (sym from-next)
 
 -- the scan from a place on, with its times there, is the scan of the page
@@ -130,12 +130,12 @@ module _ {c : Config} {on off from : ℕ} {msg : List ℕ} where
   scan-begun = record { whole = refl }
 
   module _ {a b at : ℕ} (v : Scanned c on off from msg a b at) where
-    pub scan-stop : {r : ℕ} {t : Turn} {s : PageScan} → at < length msg → r ≡ at + sliceLen (drop at msg)
-        → t ≡ turnAt c a b at (take (r - at) (drop at msg)) → t ≡ Stop s → told s ≡ scan c on off (itemsFrom from msg)
+    pub scan-stop : {r : ℕ} {t : Look} {s : PageScan} → at < length msg → r ≡ at + sliceLen (drop at msg)
+        → t ≡ lookAt c a b at (take (r - at) (drop at msg)) → t ≡ Stop s → told s ≡ scan c on off (itemsFrom from msg)
     scan-stop h e f k = stop-here c a b at msg h _ e _ f _ k ∙ v .whole
 
-    pub scan-on : {r : ℕ} {t : Turn} {p q : ℕ} → at < length msg → r ≡ at + sliceLen (drop at msg)
-        → t ≡ turnAt c a b at (take (r - at) (drop at msg)) → t ≡ On p q → Scanned c on off from msg p q r
+    pub scan-on : {r : ℕ} {t : Look} {p q : ℕ} → at < length msg → r ≡ at + sliceLen (drop at msg)
+        → t ≡ lookAt c a b at (take (r - at) (drop at msg)) → t ≡ On p q → Scanned c on off from msg p q r
     scan-on h e f k = record { whole = on-here c a b at msg h _ e _ f _ _ k ∙ v .whole }
 
     pub scan-end : length msg ≤ at → told (record { on = a; off = b; fault = None }) ≡ scan c on off (itemsFrom from msg)

@@ -4,7 +4,7 @@ ghost use Prim.Native.Nat.{_-_, _≤_};
 ghost use lib.ListN.{length, take, drop};
 ghost use Rattle.layout.specs.Read.{tagged as taggedOf, markOf, markItem, scan as scanOf};
 ghost use Rattle.page.specs.State.{newPage, doneAfter, nextState};
-ghost use Rattle.page.specs.Scan.{told, turnBy, turnAt, itemsFrom};
+ghost use Rattle.page.specs.Scan.{told, lookBy, lookAt, itemsFrom};
 use layout::Mark;
 use reading::Item;
 use records::Config;
@@ -21,7 +21,7 @@ pub struct PageScan {
 }
 
 // The times after an item, or the scan's end.
-pub enum Turn {
+pub enum Look {
     On(u16, u16),
     Stop(PageScan),
 }
@@ -75,21 +75,21 @@ fn mark_item(tags: u32, item: Item) -> Mark
 }
 
 // The times after an item at a place, or the scan's end.
-fn turn_by(c: Config, on: u16, off: u16, p: Place, m: Mark) -> Turn
-    ensures { λ r. ⌜ r ≡ turnBy c on off p m ⌝ }
+fn look_by(c: Config, on: u16, off: u16, p: Place, m: Mark) -> Look
+    ensures { λ r. ⌜ r ≡ lookBy c on off p m ⌝ }
 {
     match m {
-        Mark::Plain => Turn::On(on, off),
-        Mark::Ends => Turn::Stop(PageScan {
+        Mark::Plain => Look::On(on, off),
+        Mark::Ends => Look::Stop(PageScan {
             on,
             off,
             fault: OptRefusal::None,
         }),
-        Mark::Timed(a, b) => Turn::On(
-            layout::given(a, c.on_time as u16),
-            layout::given(b, c.off_time as u16),
+        Mark::Timed(a, b) => Look::On(
+            layout::unwrap_or(a, c.on_time as u16),
+            layout::unwrap_or(b, c.off_time as u16),
         ),
-        Mark::Wrong(number) => Turn::Stop(PageScan {
+        Mark::Wrong(number) => Look::Stop(PageScan {
             on,
             off,
             fault: OptRefusal::Some(Refusal {
@@ -103,9 +103,9 @@ fn turn_by(c: Config, on: u16, off: u16, p: Place, m: Mark) -> Turn
 }
 
 // What the slice from a place to its end makes of the times.
-fn turn_at(msg: &[u8], at: usize, end: usize, c: Config, on: u16, off: u16) -> Turn
+fn look_at(msg: &[u8], at: usize, end: usize, c: Config, on: u16, off: u16) -> Look
     requires { ⌜ (at ≤ end) × (end ≤ length (now msg)) × (length (now msg) ≤ 2048) ⌝ }
-    ensures { λ r. ⌜ r ≡ turnAt c on off at (take (end - at) (drop at (now (msg .entry)))) ⌝ }
+    ensures { λ r. ⌜ r ≡ lookAt c on off at (take (end - at) (drop at (now (msg .entry)))) ⌝ }
 {
     let s = &msg[at..end];
     let m = mark_item(c.tags, reading::item_of(at, s));
@@ -113,7 +113,7 @@ fn turn_at(msg: &[u8], at: usize, end: usize, c: Config, on: u16, off: u16) -> T
         start: at as u16,
         len: s.len() as u16,
     };
-    turn_by(c, on, off, p, m)
+    look_by(c, on, off, p, m)
 }
 
 // The scan of a page from a place of the message on, up to and including [np].
@@ -126,11 +126,11 @@ pub fn scan(msg: &[u8], from: usize, c: Config, on: u16, off: u16) -> PageScan
     let mut at = from;
     while at < msg.len() {
         let end = token::slice_end(msg, at);
-        match turn_at(msg, at, end, c, a, b) {
-            Turn::Stop(s) => {
+        match look_at(msg, at, end, c, a, b) {
+            Look::Stop(s) => {
                 return s;
             }
-            Turn::On(p, q) => {
+            Look::On(p, q) => {
                 a = p;
                 b = q;
                 at = end;

@@ -5,7 +5,7 @@ use mathlib.Core.Path.{_≡_, refl}
 use mathlib.Core.List.{[], _∷_}
 use Rattle.base.specs.Text.{ascii}
 use Rattle.number.specs.Number.{digitOf, readFrom, readDigits, readNumber, versionId}
-use Rattle.utf8.specs.Utf8.{first, extra, low, high, fits, after, wellFormedFrom, wellFormed, codeOf, codesFrom, codes, allLatin1, continues, insideCharacter}
+use Rattle.utf8.specs.Utf8.{first, extra, low, high, fits, afterByte, wellFormedFrom, wellFormed, codeOf, codesFrom, codes, allLatin1, continues, insideCharacter}
 use Rattle.token.specs.Token.{plainLen, tagLen, restLen, sliceLen, isPair, lastByte, shapeOf}
 use Rattle.part.specs.Part.{lower, upTo, past as pastSep, holds}
 use Rattle.value.specs.declared.Color.the-variants.{Legacy, Rgb}
@@ -81,7 +81,7 @@ pub record Examples : Type 0 where
   pub no-text : fails "[mvcl1,1,1]" 11 6
 
 pub examples : Examples
-unfolding digitOf readFrom readDigits readNumber versionId first extra low high fits after wellFormedFrom wellFormed codeOf codesFrom codes allLatin1
+unfolding digitOf readFrom readDigits readNumber versionId first extra low high fits afterByte wellFormedFrom wellFormed codeOf codesFrom codes allLatin1
     continues insideCharacter plainLen tagLen restLen sliceLen isPair lastByte shapeOf lower upTo pastSep holds number optional xy rectangle color
     readOptional optionalVersion justification readXy rectangleOf readRgb rgbOf colorOf newLine newPage font justificationLine justificationPage
     pageTime pageBackground colorForeground colorBackground fourOf fifth colorRectangle lastFour textRectangle spacingCharacter hexadecimalCharacter

@@ -89,7 +89,7 @@ fn line_step(p: Place, st: RenderState, spacing: OptNum, blank: bool) -> Step
 fn new_line_step(c: Config, st: RenderState, blank: bool, p: Place, spacing: OptNum) -> Step
     ensures { λ r. ⌜ r ≡ newLineStep c st blank p spacing ⌝ }
 {
-    if both_above(c.char_height, layout::given(spacing, 0)) {
+    if both_above(c.char_height, layout::unwrap_or(spacing, 0)) {
         return refuse(p, 6);
     }
     if st.line < 255 {

@@ -7,7 +7,7 @@ use Rattle.base.specs.Pick.{pick}
 use Rattle.value.specs.declared.OptNum.{OptNum}
 use Rattle.value.specs.declared.OptNum.the-variants.{Some, None}
 use Rattle.layout.specs.declared.Entry.{Entry}
-use Rattle.layout.specs.Types.{given, Meter}
+use Rattle.layout.specs.Types.{unwrapOr, Meter}
 use Rattle.rows.specs.declared.Fault.{Fault}
 use Rattle.rows.specs.declared.Gauge.{Gauge}
 use Rattle.rows.specs.declared.Row.{Row}
@@ -53,7 +53,7 @@ rowBy e g =
       fixed = flag (e .state .«char_spacing»);
       spacing = g .spacing;
       led = flag (e .state .«line_spacing»);
-      lead = given (e .state .«line_spacing») 0;
+      lead = unwrapOr (e .state .«line_spacing») 0;
       height = g .height;
       «font_spacing» = g .«font_spacing»;
       fault = g .fault;

@@ -206,8 +206,8 @@ module _ (file : List ℕ) (from : ℕ) (used : List ℕ) (fonts : List FontEntr
     pub fails-used : getD used (f .number) 0 ≡ 1 → (c : Config) (r : SignFile) → r ≡ refusalAt at → r ≡ givenFrom file from c
     fails-used e = fails (stopped (rw (test, eq-eqb (getD used (f .number) 0) 1 e)))
 
-    pub row-inside : f .first ≤ length file
-    row-inside = omega (arith, here .ends, head-to file at (here .kind) (here .start) (here .end) (here .head))
+    pub run-inside : f .first ≤ length file
+    run-inside = omega (arith, here .ends, head-to file at (here .kind) (here .start) (here .end) (here .head))
 
     past : at < f .first
     past =
@@ -318,4 +318,4 @@ module _ (file : List ℕ) (from : ℕ) (used : List ℕ) (fonts : List FontEntr
       go (Whole kind start end) d e = inner kind start end (fontShape kind (part file start end)) d refl e
       go Short d e = rw (pieces-short file at h d) (fault-short (got .ns) (got .prior) at)
 
-pub ruleset fonts-ways = (fonts-start, fonts-end, fails-full, fails-used, fails-not, row-inside, fonts-less, fonts-on)
+pub ruleset fonts-ways = (fonts-start, fonts-end, fails-full, fails-used, fails-not, run-inside, fonts-less, fonts-on)

@@ -16,13 +16,13 @@ use Rattle.records.proofs.Laws.{never, tests, head-start, head-from, head-to, p
 use Rattle.records.specs.declared.Head.{Head}
 use Rattle.records.specs.declared.Head.the-variants.{Whole, Short}
 use Rattle.sign.specs.Sign.{charactersOf, fontsOf, member, Before, After, adding, isFont, isCharacter, bitmapLen, faultFrom}
-use Rattle.sign.specs.Reading.{entryWith, fontEntry, part, fontShape, fontIn, fontAt, charShape, charIn, charBy, charAt, Marked, stops, Run, Running, Ran, RowIn}
+use Rattle.sign.specs.Reading.{entryWith, fontEntry, part, fontShape, fontIn, fontAt, charShape, charIn, charBy, charAt, Marked, stops, Run, Running, Ran, RunIn}
 use Rattle.sign.specs.declared.FontEntry.{FontEntry}
 use Rattle.sign.specs.declared.FontAt.{FontAt}
 use Rattle.sign.specs.declared.FontAt.the-variants.{Is, Not}
 use Rattle.sign.specs.declared.CharAt.{CharAt}
 use Rattle.sign.specs.declared.CharAt.the-variants.{Code, Other}
-use Rattle.sign.specs.declared.Row.{Row}
+use Rattle.sign.specs.declared.CharRun.{CharRun}
 
 -- a product of two bytes
 pub small : (a b : ℕ) → a < 256 → b < 256 → a * b ≤ 65536
@@ -248,8 +248,8 @@ run-start file from height table h z = record { run = run; marked = marked-none 
           fonts = refl;
         }
 
-abbrev row : ℕ → ℕ → Bool → Row
-row n at w = record { n = n; at = at; wide = w }
+abbrev runAt : ℕ → ℕ → Bool → CharRun
+runAt n at w = record { n = n; at = at; wide = w }
 
 module _ (file : List ℕ) (from height size n at : ℕ) (table : List ℕ) (so : Running file from height size table n at) where
   abbrev run : Run file from height n at
@@ -258,7 +258,7 @@ module _ (file : List ℕ) (from height size n at : ℕ) (table : List ℕ) (so 
   abbrev cs : List ℕ
   cs = run .cs
 
-  ended : stops (After height cs) (piecesAt file at) ≡ true → RowIn file from height size (row n at false)
+  ended : stops (After height cs) (piecesAt file at) ≡ true → RunIn file from height size (runAt n at false)
   ended e = record { ran = λ p. record { run = run; stop = e }; narrow = λ h. refl }
 
   -- the record at the offset has the shape of a character
@@ -327,19 +327,19 @@ module _ (file : List ℕ) (from height size n at : ℕ) (table : List ℕ) (so 
               fonts = fonts;
             }
 
-    bad : isCharacter (After height cs) (here .kind) body ≡ false → RowIn file from height size (row n at false)
+    bad : isCharacter (After height cs) (here .kind) body ≡ false → RunIn file from height size (runAt n at false)
     bad e = ended (rw next (stops-here (After height cs) at (here .kind) body (piecesAt file end) e))
 
-    pub ran-full : n ≡ 256 → RowIn file from height size (row n at false)
+    pub ran-full : n ≡ 256 → RunIn file from height size (runAt n at false)
     ran-full e = bad (rw (test, le-ltb n 256 (omega arith)) (all-no (not (eqb (getD table code 0) 1))))
 
-    pub ran-used : getD table code 0 ≡ 1 → RowIn file from height size (row n at false)
+    pub ran-used : getD table code 0 ≡ 1 → RunIn file from height size (runAt n at false)
     ran-used e = bad (rw (test, eq-eqb (getD table code 0) 1 e))
 
-    pub ran-wide : length table ≤ code → code < 65536 → RowIn file from height size (row n at true)
+    pub ran-wide : length table ≤ code → code < 65536 → RunIn file from height size (runAt n at true)
     ran-wide h l = record { ran = λ p. never (let z : _≡_ {A = ℕ} 0 1 = cc in z); narrow = λ g. absurd (omega (arith, so .same)) }
 
-  pub ran-other : (s : CharAt) → s ≡ charAt file at height → s ≡ Other → at < length file → RowIn file from height size (row n at false)
+  pub ran-other : (s : CharAt) → s ≡ charAt file at height → s ≡ Other → at < length file → RunIn file from height size (runAt n at false)
   unfolding charAt charIn
   ran-other s p q h = ended (go (headAt file at) refl (sym p ∙ q))
     where
@@ -354,17 +354,17 @@ module _ (file : List ℕ) (from height size n at : ℕ) (table : List ℕ) (so 
       go (Whole kind start end) d e = inner kind start end (charShape height kind (part file start end)) d refl e
       go Short d e = rw (pieces-short file at h d) (stops-short (After height cs) at)
 
-  pub ran-end : length file ≤ at → RowIn file from height size (row n at false)
+  pub ran-end : length file ≤ at → RunIn file from height size (runAt n at false)
   ran-end h = ended (rw (pieces-end file at h) (stops-end (After height cs)))
 
-pub ruleset row-ways = (run-start, run-on, ran-full, ran-wide, ran-used, run-less, ran-other, ran-end)
+pub ruleset run-ways = (run-start, run-on, ran-full, ran-wide, ran-used, run-less, ran-other, ran-end)
 
--- `row_of`
-module _ (file : List ℕ) (from height : ℕ) (r : Row) where
-  pub row-small : (size : ℕ) → RowIn file from height size r → not (r .wide) ≡ true → Ran file from height (r .n) (r .at)
-  row-small size d e = d .ran (not-true (r .wide) e)
+-- `run_of`
+module _ (file : List ℕ) (from height : ℕ) (r : CharRun) where
+  pub run-small : (size : ℕ) → RunIn file from height size r → not (r .wide) ≡ true → Ran file from height (r .n) (r .at)
+  run-small size d e = d .ran (not-true (r .wide) e)
 
-  pub row-whole : (table : List ℕ) → RowIn file from height (length table) r → length table ≡ 65536 → Ran file from height (r .n) (r .at)
-  row-whole table d e = d .ran (d .narrow (omega arith))
+  pub run-whole : (table : List ℕ) → RunIn file from height (length table) r → length table ≡ 65536 → Ran file from height (r .n) (r .at)
+  run-whole table d e = d .ran (d .narrow (omega arith))
 
-pub ruleset row-of-ways = (row-small, row-whole, zeros)
+pub ruleset run-of-ways = (run-small, run-whole, zeros)

@@ -17,7 +17,7 @@ use Rattle.sign.specs.declared.FontAt.{FontAt}
 use Rattle.sign.specs.declared.FontAt.the-variants.{Is, Not}
 use Rattle.sign.specs.declared.CharAt.{CharAt}
 use Rattle.sign.specs.declared.CharAt.the-variants.{Code, Other}
-use Rattle.sign.specs.declared.Row.{Row}
+use Rattle.sign.specs.declared.CharRun.{CharRun}
 use Rattle.sign.specs.Given.{entryOf, noFonts, given}
 use Rattle.sign.specs.declared.SignFile.{SignFile}
 
@@ -119,8 +119,8 @@ pub record Running (file : List ℕ) (from height size : ℕ) (table : List ℕ)
   pub marked : Marked (run .cs) table
   pub same : length table ≡ size
 
--- what is read with a table of a size: the row, or it is too wide, as no row is for 65,536
-pub record RowIn (file : List ℕ) (from height size : ℕ) (r : Row) : Type 0 where
+-- what is read with a table of a size: the run, or its table is too small, as none of 65,536 is
+pub record RunIn (file : List ℕ) (from height size : ℕ) (r : CharRun) : Type 0 where
   pub ran : r .wide ≡ false → Ran file from height (r .n) (r .at)
   pub narrow : 65536 ≤ size → r .wide ≡ false
 

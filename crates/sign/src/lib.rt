@@ -7,7 +7,7 @@ ghost use Prim.Native.Nat.{ℕ, _≤_, _<_};
 ghost use lib.ListN.{length, getD};
 ghost use Rattle.sign.specs.Sign.{bitmapLen, signFile};
 ghost use Rattle.sign.specs.Given.{noFonts, refusalAt, given};
-ghost use Rattle.sign.specs.Reading.{fontEntry, fontIn, fontAt, charIn, charAt, Ran, RowIn, givenFrom};
+ghost use Rattle.sign.specs.Reading.{fontEntry, fontIn, fontAt, charIn, charAt, Ran, RunIn, givenFrom};
 
 // A font of the file: its values, the offset of its first character's record, and how many it has.
 pub struct FontEntry {
@@ -44,7 +44,7 @@ pub enum CharAt {
 }
 
 // n characters in a row, and the offset past them. wide: the next one's number is past the table.
-pub struct Row {
+pub struct CharRun {
     pub n: usize,
     pub at: usize,
     pub wide: bool,
@@ -133,46 +133,46 @@ fn char_at(file: &[u8], at: usize, height: u8) -> CharAt
 }
 
 // The characters of a font, in a row: the table has 1 at the numbers that were used.
-fn read_row(file: &[u8], from: usize, height: u8, table: &mut [u8]) -> Row
+fn read_run(file: &[u8], from: usize, height: u8, table: &mut [u8]) -> CharRun
     requires { ⌜ from ≤ length (now file) ⌝ }
     requires { ⌜ ((n : ℕ) → getD (now table) n 0 ≡ 0) ⌝ }
-    ensures { λ r. ⌜ RowIn (now (file .entry)) from height (length (now (table .entry))) r ⌝ }
+    ensures { λ r. ⌜ RunIn (now (file .entry)) from height (length (now (table .entry))) r ⌝ }
 {
     let mut n: usize = 0;
     let mut at = from;
     while at < file.len() {
         let CharAt::Code(code, end) = char_at(file, at, height) else {
-            return Row { n, at, wide: false };
+            return CharRun { n, at, wide: false };
         };
         if n == 256 {
-            return Row { n, at, wide: false };
+            return CharRun { n, at, wide: false };
         }
         let k = code as usize;
         if table.len() <= k {
-            return Row { n, at, wide: true };
+            return CharRun { n, at, wide: true };
         }
         if table[k] == 1 {
-            return Row { n, at, wide: false };
+            return CharRun { n, at, wide: false };
         }
         table[k] = 1;
         n += 1;
         at = end;
     }
-    Row { n, at, wide: false }
+    CharRun { n, at, wide: false }
 }
 
 // The same for any numbers, first with a small table: to clear the whole one takes longer than most files do.
-fn row_of(file: &[u8], from: usize, height: u8) -> Row
+fn run_of(file: &[u8], from: usize, height: u8) -> CharRun
     requires { ⌜ from ≤ length (now file) ⌝ }
     ensures { λ r. ⌜ Ran (now (file .entry)) from height (r .n) (r .at) ⌝ }
 {
     let mut small = [0u8; 1024];
-    let row = read_row(file, from, height, &mut small);
-    if !row.wide {
-        return row;
+    let run = read_run(file, from, height, &mut small);
+    if !run.wide {
+        return run;
     }
     let mut table = [0u8; 65536];
-    read_row(file, from, height, &mut table)
+    read_run(file, from, height, &mut table)
 }
 
 // A table with no font.
@@ -236,12 +236,12 @@ fn read_fonts(file: &[u8], from: usize, config: Config) -> SignFile
             return refused(at);
         }
         used[k] = 1;
-        let row = row_of(file, f.first, f.height);
+        let run = run_of(file, f.first, f.height);
         let mut entry = f;
-        entry.characters = row.n;
+        entry.characters = run.n;
         fonts[count] = entry;
         count += 1;
-        at = row.at;
+        at = run.at;
     }
     SignFile {
         outcome: Outcome::Accepted,

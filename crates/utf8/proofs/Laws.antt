@@ -12,23 +12,23 @@ use Rattle.base.specs.Pick.{pick, picks}
 use Rattle.base.specs.Lists.{drop-step, past-end}
 use Rattle.utf8.specs.declared.Due.{Due}
 use Rattle.utf8.specs.declared.Code.{Code}
-use Rattle.utf8.specs.Utf8.{extra, due, fits, after, wellFormedFrom, allAscii, bits, codeOf, codesFrom, codes, coded, codeAt, allLatin1}
+use Rattle.utf8.specs.Utf8.{extra, due, fits, afterByte, wellFormedFrom, allAscii, bits, codeOf, codesFrom, codes, coded, codeAt, allLatin1}
 
--- `after`
+-- `after_byte`
 pub due-same : (k lo hi k′ lo′ hi′ : ℕ) → k ≡ k′ → lo ≡ lo′ → hi ≡ hi′ → due k lo hi ≡ due k′ lo′ hi′
 due-same k lo hi k′ lo′ hi′ p q r = rw (p, q, r)
 
 -- `walk`
 module _ (l : List ℕ) (i : ℕ) (d : Due) (w : Bool) (inv : wellFormedFrom d (drop i l) ≡ w) where
   module _ (h : i < length l) (t : Bool) (e : t ≡ fits d (getD l i 0)) where
-    here : pick t (wellFormedFrom (after d (getD l i 0)) (drop (i + 1) l)) false ≡ w
+    here : pick t (wellFormedFrom (afterByte d (getD l i 0)) (drop (i + 1) l)) false ≡ w
     unfolding wellFormedFrom
     here = rw e (rw (drop-step l i h) at inv)
 
     pub formed-bad : t ≡ false → false ≡ w
     formed-bad p = rw p at here
 
-    pub formed-on : (f : Due) → t ≡ true → f ≡ after d (getD l i 0) → wellFormedFrom f (drop (i + 1) l) ≡ w
+    pub formed-on : (f : Due) → t ≡ true → f ≡ afterByte d (getD l i 0) → wellFormedFrom f (drop (i + 1) l) ≡ w
     formed-on f p q = rw q (rw p at here)
 
   pub formed-end : length l ≤ i → eqb (d .left) 0 ≡ w

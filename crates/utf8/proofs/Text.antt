@@ -14,7 +14,7 @@ use Rattle.base.specs.Pick.{pick, picks}
 use Rattle.base.specs.Lists.{drop-step, past-end}
 use Rattle.utf8.specs.declared.Due.{Due}
 use Rattle.utf8.specs.declared.Code.{Code}
-use Rattle.utf8.specs.Utf8.{first, extra, low, high, due, fits, after, wellFormedFrom, wellFormed, allAscii, bits, codeOf, codesFrom, codes, codeAt, allLatin1, continues, insideCharacter}
+use Rattle.utf8.specs.Utf8.{first, extra, low, high, due, fits, afterByte, wellFormedFrom, wellFormed, allAscii, bits, codeOf, codesFrom, codes, codeAt, allLatin1, continues, insideCharacter}
 use Rattle.utf8.proofs.Laws.{extra-1, extra-3, extra-4, len-is}
 
 never : {A : Type 0} → false ≡ true → A
@@ -39,7 +39,7 @@ module _ (from : ℕ) where
       (ltb-false b from (p .0), ltb-true b 128 (q .0), q .1)
 
   ascii-from : (lo hi : ℕ) (l : List ℕ) → allAscii from l ≡ true → wellFormedFrom (due 0 lo hi) l ≡ true
-  unfolding wellFormedFrom fits after first extra
+  unfolding wellFormedFrom fits afterByte first extra
   ascii-from lo hi [] e = refl
   ascii-from lo hi (b ∷ l) e = let p = ascii-first b l e in rw (lt-ltb b 128 (p .1), lt-ltb b 192 (omega (arith, p .1))) (ascii-from (low b) (high b) l (p .2))
 
@@ -60,19 +60,19 @@ ascii-latin1 l t e p = sym (ascii-codes l (sym e ∙ p))
 
 -- where none is due, a range says nothing
 start-same : (lo hi : ℕ) (l : List ℕ) → wellFormedFrom (due 0 lo hi) l ≡ wellFormed l
-unfolding wellFormed wellFormedFrom fits after
+unfolding wellFormed wellFormedFrom fits afterByte
 start-same lo hi [] = refl
 start-same lo hi (b ∷ l) = refl
 
 -- the first byte of a text that is well formed, and what is due after it
 head-formed : (b : ℕ) (l : List ℕ) → wellFormed (b ∷ l) ≡ true → (first b ≡ true) × (wellFormedFrom (due (extra b) (low b) (high b)) l ≡ true)
-unfolding wellFormed wellFormedFrom fits after
+unfolding wellFormed wellFormedFrom fits afterByte
 head-formed b l w = both _ _ w
 
 -- a byte that was due
 step-due : (k lo hi b : ℕ) (l : List ℕ)
     → wellFormedFrom (due (suc k) lo hi) (b ∷ l) ≡ pick (pick (ltb b lo) false (leb b hi)) (wellFormedFrom (due k 128 191) l) false
-unfolding wellFormedFrom fits after
+unfolding wellFormedFrom fits afterByte
 step-due k lo hi b l =
     let e : suc k - 1 ≡ k = omega arith in
     rw (eqb·suc-zero k, e)
@@ -165,8 +165,8 @@ high-le b = go (eqb b 237) (eqb b 244)
     go false true = omega arith
     go false false = omega arith
 
-after-ranged : (d : Due) (b : ℕ) → Ranged (after d b)
-unfolding after Ranged
+after-ranged : (d : Due) (b : ℕ) → Ranged (afterByte d b)
+unfolding afterByte Ranged
 after-ranged d b = go (eqb (d .left) 0)
   where
     go : (t : Bool) → Ranged (pick t (due (extra b) (low b) (high b)) (due (d .left - 1) 128 191))
@@ -188,8 +188,8 @@ cut-from : (d : Due) → Ranged d → (a b : List ℕ) → insideCharacter b 0 �
 unfolding wellFormedFrom Ranged
 cut-from d r [] b s w = seam (d .left) (d .low) (d .high) (r .0) (r .1) b s w
 cut-from d r (x ∷ a) b s w =
-    let p = both (fits d x) (wellFormedFrom (after d x) (a ++ b)) w in
-    let q = cut-from (after d x) (after-ranged d x) a b s (p .1) in
+    let p = both (fits d x) (wellFormedFrom (afterByte d x) (a ++ b)) w in
+    let q = cut-from (afterByte d x) (after-ranged d x) a b s (p .1) in
     (rw (p .0) (q .0), q .1)
 
 -- cutting a text where no character is cut

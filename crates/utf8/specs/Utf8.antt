@@ -34,14 +34,14 @@ unfoldable pub fits : Due → ℕ → Bool
 fits d b = pick (eqb (d .left) 0) (first b) (pick (ltb b (d .low)) false (leb b (d .high)))
 
 -- what is due after it: the third and the fourth byte are 80 to BF
-unfoldable pub after : Due → ℕ → Due
-after d b = pick (eqb (d .left) 0) (due (extra b) (low b) (high b)) (due (d .left - 1) 128 191)
+unfoldable pub afterByte : Due → ℕ → Due
+afterByte d b = pick (eqb (d .left) 0) (due (extra b) (low b) (high b)) (due (d .left - 1) 128 191)
 
 -- each byte may come, and none is due at the end
 unfoldable pub wellFormedFrom : Due → List ℕ → Bool
 wellFormedFrom d [] = eqb (d .left) 0
 wellFormedFrom d (b ∷ l) =
-    let on = wellFormedFrom (after d b) l in
+    let on = wellFormedFrom (afterByte d b) l in
     pick (fits d b) on false
 
 unfoldable pub wellFormed : List ℕ → Bool

@@ -2,7 +2,7 @@
 ghost use mathlib.Core.Path.{_≡_};
 ghost use lib.Dec.{ltb};
 ghost use Rattle.base.specs.Pick.{pick};
-ghost use Rattle.utf8.specs.Utf8.{first as firstOf, extra as extraOf, low as lowOf, high as highOf, fits as fitsOf, after as afterOf, wellFormed, allAscii, bits as bitsOf, codes, codeAt, allLatin1, continues as continuesOf, insideCharacter};
+ghost use Rattle.utf8.specs.Utf8.{first as firstOf, extra as extraOf, low as lowOf, high as highOf, fits as fitsOf, afterByte as afterOf, wellFormed, allAscii, bits as bitsOf, codes, codeAt, allLatin1, continues as continuesOf, insideCharacter};
 
 // How many bytes of a character are due, and the range of the next one.
 struct Due {
@@ -87,7 +87,7 @@ impl Due {
     }
 
     // What is due after it.
-    fn after(self, b: u8) -> Due
+    fn after_byte(self, b: u8) -> Due
         ensures { λ r. ⌜ r ≡ afterOf self b ⌝ }
     {
         if self.left == 0 {
@@ -159,7 +159,7 @@ fn walk(s: &[u8]) -> bool
         if !d.fits(b) {
             return false;
         }
-        d = d.after(b);
+        d = d.after_byte(b);
         i += 1;
     }
     d.left == 0

@@ -7,7 +7,7 @@ pub gauge-in-spec : {M : Type 1} → statement M
 gauge-in-spec =
     tie.close (tie.spec
     (λ c κs. search needs)  -- wide16-requires
-    (λ c κs. search needs)  -- given-requires
+    (λ c κs. search needs)  -- unwrap-or-requires
     (λ c κs. search needs)  -- span-width-requires
     (λ c κs. search needs)  -- version-number-requires
     (λ c κs. search needs)  -- fault-by-requires
@@ -17,11 +17,11 @@ gauge-in-spec =
     (λ c.
     let a : tie.Start = search in
     let d : tie.After-wide16 = search in
-    let s : tie.After-given = search in
+    let s : tie.After-unwrap-or = search in
     let m : tie.After-span-width = search in
     let n : tie.After-version-number = search in
     let x : tie.After-fault-by = search in
     let h : tie.After-wide162 = search in
     let l : tie.After-wide163 = search in
-    gauge-is (a .args .file .now) (a .args .msg .now) (a .args .e) (a .args .f) (d .wide16 .ensures .0) (s .given .ensures)
+    gauge-is (a .args .file .now) (a .args .msg .now) (a .args .e) (a .args .f) (d .wide16 .ensures .0) (s .unwrap-or .ensures)
     (m .span-width .ensures) (n .version-number .ensures) (x .fault-by .ensures) (h .wide162 .ensures .0) (l .wide163 .ensures .0) (c .width-of .ensures)))  -- returns

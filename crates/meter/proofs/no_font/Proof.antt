@@ -6,6 +6,6 @@ use Rattle.meter.proofs.no_font.Tie as tie
 pub no-font-spec : {M : Type 1} → statement M
 no-font-spec =
     tie.close (tie.spec
-    (λ c κs. search needs)  -- given-requires
+    (λ c κs. search needs)  -- unwrap-or-requires
     (λ c κs. search needs)  -- wide16-requires
     (λ c. search (none-fields, needs) depth 6))  -- returns

@@ -12,5 +12,5 @@ row-by-spec =
     (λ c κs. search needs)  -- wide16-requires-4
     (λ c κs. search needs)  -- flag-requires
     (λ c κs. search needs)  -- flag-requires-2
-    (λ c κs. search needs)  -- given-requires
+    (λ c κs. search needs)  -- unwrap-or-requires
     (λ c. search (row-fields, needs) depth 6))  -- returns

@@ -18,7 +18,7 @@ scan-spec =
     μ-loop
     (λ c. search scan-begun)  -- loop-holds
     (λ c κs. search (scan-asks, needs) depth 6)  -- slice-end-requires
-    (λ c κs. search (scan-asks, needs) depth 6)  -- turn-at-requires
+    (λ c κs. search (scan-asks, needs) depth 6)  -- look-at-requires
     (λ c. search needs)  -- enum-known-s
     (λ c. search scan-stop)  -- returns
     (λ c. search needs)  -- enum-known-p

@@ -31,7 +31,7 @@ read-fonts-spec =
     (λ c κs. search needs)  -- refused-requires-3
     (λ c. search (fonts-ways, needs) depth 6)  -- returns-3
     (λ c. search needs)  -- array-write-used
-    (λ c κs. search (fonts-ways, needs) depth 6)  -- row-of-requires
+    (λ c κs. search (fonts-ways, needs) depth 6)  -- run-of-requires
     (λ c. search needs)  -- mul-fonts
     (λ c. search needs)  -- array-set-from-fonts
     (λ c. search needs)  -- add-count

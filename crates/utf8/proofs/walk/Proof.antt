@@ -22,7 +22,7 @@ walk-spec =
     (λ c. search (formed-ways, needs) depth 6)  -- shared-slice-read-b
     (λ c κs. search (formed-ways, needs) depth 6)  -- fits-requires
     (λ c. search (formed-ways, needs) depth 6)  -- returns
-    (λ c κs. search (formed-ways, needs) depth 6)  -- after-requires
+    (λ c κs. search (formed-ways, needs) depth 6)  -- after-byte-requires
     (λ c. search (formed-ways, needs) depth 6)  -- add-i
     (λ c. search (formed-ways, needs) depth 6)  -- loop-less
     (λ c. search (formed-ways, needs) depth 6)  -- loop-again

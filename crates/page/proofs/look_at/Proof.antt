@@ -1,10 +1,10 @@
-use Rattle.page.specs.Scan.{turnAt}
+use Rattle.page.specs.Scan.{lookAt}
 use borrow.Author.Needs.{needs}
-use Rattle.page.proofs.turn_at.Statement.{statement}
-use Rattle.page.proofs.turn_at.Tie as tie
+use Rattle.page.proofs.look_at.Statement.{statement}
+use Rattle.page.proofs.look_at.Tie as tie
 
-pub turn-at-spec : {M : Type 1} → statement M
-turn-at-spec =
+pub look-at-spec : {M : Type 1} → statement M
+look-at-spec =
     tie.close (tie.spec
     (λ c. search needs)  -- sub-s
     (λ c. search needs)  -- part-s-start
@@ -13,5 +13,5 @@ turn-at-spec =
     (λ c κs. search needs)  -- mark-item-requires
     (λ c. search needs)  -- cast-t14
     (λ c. search needs)  -- cast-t15
-    (λ c κs. search needs)  -- turn-by-requires
-    (λ c. unfold turnAt in cc))  -- returns
+    (λ c κs. search needs)  -- look-by-requires
+    (λ c. unfold lookAt in cc))  -- returns
