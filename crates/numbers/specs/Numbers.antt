@@ -31,9 +31,9 @@ abbrev pub flagOf : OptNum → ℕ
 flagOf (Some n) = 1
 flagOf None = 0
 
-abbrev pub givenOf : OptNum → ℕ
-givenOf (Some n) = n
-givenOf None = 0
+abbrev pub orZero : OptNum → ℕ
+orZero (Some n) = n
+orZero None = 0
 
 abbrev pub orderOf : FlashOrder → ℕ
 orderOf OnOff = 0
@@ -72,11 +72,11 @@ colorOf code (SomeColor c) = make code 1 (kindOf c) (firstOf c) (greenOf c) (blu
 colorOf code NoColor = make code 0 0 0 0 0 0 0 0
 
 abbrev pub fontOf : OptFont → Numbers
-fontOf (SomeFont n v) = make 7 1 n (flagOf v) (givenOf v) 0 0 0 0
+fontOf (SomeFont n v) = make 7 1 n (flagOf v) (orZero v) 0 0 0 0
 fontOf NoFont = make 7 0 0 0 0 0 0 0 0
 
 abbrev pub graphicOf : ℕ → OptPoint → Numbers
-graphicOf n (SomePoint x y v) = make 8 n 1 x y (flagOf v) (givenOf v) 0 0
+graphicOf n (SomePoint x y v) = make 8 n 1 x y (flagOf v) (orZero v) 0 0
 graphicOf n NoPoint = make 8 n 0 0 0 0 0 0 0
 
 abbrev pub specificOf : ℕ → ℕ → OptPlace → Numbers
@@ -87,21 +87,21 @@ abbrev pub numbersOf : Value → Numbers
 numbersOf (ColorBackground c) = colorOf 1 c
 numbersOf (ColorForeground c) = colorOf 2 c
 numbersOf (ColorRectangle r c) = make 3 (r .x) (r .y) (r .width) (r .height) (kindOf c) (firstOf c) (greenOf c) (blueOf c)
-numbersOf (Field n w) = make 4 n (flagOf w) (givenOf w) 0 0 0 0 0
-numbersOf (Flash o a b) = make 5 (orderOf o) (flagOf a) (givenOf a) (flagOf b) (givenOf b) 0 0 0
+numbersOf (Field n w) = make 4 n (flagOf w) (orZero w) 0 0 0 0 0
+numbersOf (Flash o a b) = make 5 (orderOf o) (flagOf a) (orZero a) (flagOf b) (orZero b) 0 0 0
 numbersOf FlashEnd = make 6 0 0 0 0 0 0 0 0
 numbersOf (Font f) = fontOf f
 numbersOf (Graphic n p) = graphicOf n p
 numbersOf (HexadecimalCharacter c) = make 9 c 0 0 0 0 0 0 0
-numbersOf (JustificationLine j) = make 10 (flagOf j) (givenOf j) 0 0 0 0 0 0
-numbersOf (JustificationPage j) = make 11 (flagOf j) (givenOf j) 0 0 0 0 0 0
+numbersOf (JustificationLine j) = make 10 (flagOf j) (orZero j) 0 0 0 0 0 0
+numbersOf (JustificationPage j) = make 11 (flagOf j) (orZero j) 0 0 0 0 0 0
 numbersOf (ManufacturerSpecific m p) = specificOf 12 m p
 numbersOf (ManufacturerSpecificEnd m p) = specificOf 13 m p
 numbersOf (MovingText m d t) = make 14 (modeOf m) (delayOf m) (directionOf d) (t .width) (t .pixels) (t .deciseconds) (t .text .start) (t .text .len)
-numbersOf (NewLine s) = make 15 (flagOf s) (givenOf s) 0 0 0 0 0 0
+numbersOf (NewLine s) = make 15 (flagOf s) (orZero s) 0 0 0 0 0 0
 numbersOf NewPage = make 16 0 0 0 0 0 0 0 0
 numbersOf (PageBackground c) = colorOf 17 c
-numbersOf (PageTime a b) = make 18 (flagOf a) (givenOf a) (flagOf b) (givenOf b) 0 0 0 0
+numbersOf (PageTime a b) = make 18 (flagOf a) (orZero a) (flagOf b) (orZero b) 0 0 0 0
 numbersOf (SpacingCharacter s) = make 19 s 0 0 0 0 0 0 0
 numbersOf SpacingCharacterEnd = make 20 0 0 0 0 0 0 0 0
 numbersOf (Text p) = make 21 (p .start) (p .len) 0 0 0 0 0 0

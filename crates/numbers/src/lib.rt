@@ -1,6 +1,6 @@
 // A value as numbers: the place of its case in `enum Value`, from 1, and eight numbers. Vectors and C have values so.
 ghost use mathlib.Core.Path.{_≡_};
-ghost use Rattle.numbers.specs.Numbers.{make as makeOf, numbersOf, flagOf, givenOf, orderOf, modeOf, delayOf, directionOf, kindOf, firstOf, greenOf, blueOf, colorOf, fontOf, graphicOf, specificOf};
+ghost use Rattle.numbers.specs.Numbers.{make as makeOf, numbersOf, flagOf, orZero, orderOf, modeOf, delayOf, directionOf, kindOf, firstOf, greenOf, blueOf, colorOf, fontOf, graphicOf, specificOf};
 use value::Color;
 use value::FlashOrder;
 use value::Movement;
@@ -29,8 +29,8 @@ fn flag(v: OptNum) -> u32
     }
 }
 
-fn given(v: OptNum) -> u32
-    ensures { λ r. ⌜ r ≡ givenOf v ⌝ }
+fn or_zero(v: OptNum) -> u32
+    ensures { λ r. ⌜ r ≡ orZero v ⌝ }
 {
     match v {
         OptNum::Some(n) => n as u32,
@@ -128,7 +128,7 @@ fn font(v: OptFont) -> Numbers
     match v {
         OptFont::Some(n, id) => Numbers {
             code: 7,
-            n: [1, base::wide32(n), flag(id), given(id), 0, 0, 0, 0],
+            n: [1, base::wide32(n), flag(id), or_zero(id), 0, 0, 0, 0],
         },
         OptFont::None => Numbers { code: 7, n: [0; 8] },
     }
@@ -146,7 +146,7 @@ fn graphic(n: u8, v: OptPoint) -> Numbers
                 x as u32,
                 y as u32,
                 flag(id),
-                given(id),
+                or_zero(id),
                 0,
                 0,
             ],
@@ -185,30 +185,30 @@ fn one(code: u32, a: u32) -> Numbers
 
 // One optional number.
 fn number(code: u32, v: OptNum) -> Numbers
-    ensures { λ r. ⌜ r ≡ makeOf code (flagOf v) (givenOf v) 0 0 0 0 0 0 ⌝ }
+    ensures { λ r. ⌜ r ≡ makeOf code (flagOf v) (orZero v) 0 0 0 0 0 0 ⌝ }
 {
     Numbers {
         code,
-        n: [flag(v), given(v), 0, 0, 0, 0, 0, 0],
+        n: [flag(v), or_zero(v), 0, 0, 0, 0, 0, 0],
     }
 }
 
 // Two optional numbers.
 fn times(code: u32, a: OptNum, b: OptNum) -> Numbers
-    ensures { λ r. ⌜ r ≡ makeOf code (flagOf a) (givenOf a) (flagOf b) (givenOf b) 0 0 0 0 ⌝ }
+    ensures { λ r. ⌜ r ≡ makeOf code (flagOf a) (orZero a) (flagOf b) (orZero b) 0 0 0 0 ⌝ }
 {
     Numbers {
         code,
-        n: [flag(a), given(a), flag(b), given(b), 0, 0, 0, 0],
+        n: [flag(a), or_zero(a), flag(b), or_zero(b), 0, 0, 0, 0],
     }
 }
 
 fn flash(o: FlashOrder, a: OptNum, b: OptNum) -> Numbers
-    ensures { λ r. ⌜ r ≡ makeOf 5 (orderOf o) (flagOf a) (givenOf a) (flagOf b) (givenOf b) 0 0 0 ⌝ }
+    ensures { λ r. ⌜ r ≡ makeOf 5 (orderOf o) (flagOf a) (orZero a) (flagOf b) (orZero b) 0 0 0 ⌝ }
 {
     Numbers {
         code: 5,
-        n: [order(o), flag(a), given(a), flag(b), given(b), 0, 0, 0],
+        n: [order(o), flag(a), or_zero(a), flag(b), or_zero(b), 0, 0, 0],
     }
 }
 
@@ -268,11 +268,11 @@ fn moving(m: MovingTextMode, d: MovingTextDirection, t: Movement) -> Numbers
 }
 
 fn field(n: u8, w: OptNum) -> Numbers
-    ensures { λ r. ⌜ r ≡ makeOf 4 n (flagOf w) (givenOf w) 0 0 0 0 0 ⌝ }
+    ensures { λ r. ⌜ r ≡ makeOf 4 n (flagOf w) (orZero w) 0 0 0 0 0 ⌝ }
 {
     Numbers {
         code: 4,
-        n: [base::wide32(n), flag(w), given(w), 0, 0, 0, 0, 0],
+        n: [base::wide32(n), flag(w), or_zero(w), 0, 0, 0, 0, 0],
     }
 }
 

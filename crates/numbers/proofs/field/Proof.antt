@@ -7,5 +7,5 @@ field-spec =
     tie.close (tie.spec
     (λ c κs. search needs)  -- wide32-requires
     (λ c κs. search needs)  -- flag-requires
-    (λ c κs. search needs)  -- given-requires
+    (λ c κs. search needs)  -- or-zero-requires
     (λ c. cc))  -- returns

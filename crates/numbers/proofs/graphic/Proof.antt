@@ -10,7 +10,7 @@ graphic-spec =
     (λ c. search needs)  -- cast-t8
     (λ c. search needs)  -- cast-t9
     (λ c κs. search needs)  -- flag-requires
-    (λ c κs. search needs)  -- given-requires
+    (λ c κs. search needs)  -- or-zero-requires
     (λ c. search needs)  -- enum-told
     (λ c κs. search needs)  -- wide32-requires-2
     (λ c. let t : tie.After-v = search in rw (t .v .given .1) (cc))  -- returns

@@ -6,5 +6,5 @@ pub number-spec : {M : Type 1} → statement M
 number-spec =
     tie.close (tie.spec
     (λ c κs. search needs)  -- flag-requires
-    (λ c κs. search needs)  -- given-requires
+    (λ c κs. search needs)  -- or-zero-requires
     (λ c. cc))  -- returns
