@@ -1,4 +1,5 @@
--- What the walks of `next` and `record_at` have in common. Both, and the function that `next` calls, ask nothing and say a fact of their result; of their parameters nothing is had at exit.
+-- What the walks of `next` and `record_at` have in common. Both, and the function that `next` calls, ask nothing and say a fact of their result; of
+-- their parameters nothing is had at exit.
 --     Says T φ             the contract of a function that says φ
 --     answers              a step, after its call: the answer, with φ of it, and the tokens
 --     OnReader, OnParts    a function of a reader, and one of a slice and a number.        At, AtParts    what each says
@@ -72,8 +73,11 @@ module _ {M : Type 1} (𝓤 : URA M) (H : Heap 𝓤) (A : Atoms 𝓤) (T : Ended
         → ((r : Res (T .signature) (x .0)) → φ (x .0) (x .3) r → Is Result r (u ∷ []) → Seq K W (‵ (Result .own r (u ∷ [])) ∷ Tokens ∷ Γ) G)
         → Seq K W (raw (Says .post (x, tt) u) ∷ Γ) G
     answers t z u k =
-        use1 W (later (some (λ (r : Res (T .signature) (x .0)). (Tokens ⊛ ‵ (Result .own r (u ∷ []))) ⊛ raw (ensured 𝓤 H A T Saying (x .0) (x .3) tt r)))) (id⊢ 𝓤 _) $ await t z $ pick t (λ r.
-        split t $ move t (1 ∷ []) $ use1 W (raw (fact 𝓤 (φ (x .0) (x .3) r))) (exE 𝓤 _ (λ ws. snd∗ 𝓤 (sem 𝓤 H A (lasts T (x .0) (x .3) ws)) (fact 𝓤 (φ (x .0) (x .3) r)))) $ heard t (φ (x .0) (x .3) r) (λ e.
+        use1 W (later (some (λ (r : Res (T .signature) (x .0)). (Tokens ⊛ ‵ (Result .own r (u ∷ []))) ⊛ raw (ensured 𝓤 H A T Saying (x .0) (x .3) tt r))))
+        (id⊢ 𝓤 _) $ await t z $ pick t (λ r.
+        split t $ move t (1 ∷ []) $
+        use1 W (raw (fact 𝓤 (φ (x .0) (x .3) r))) (exE 𝓤 _ (λ ws. snd∗ 𝓤 (sem 𝓤 H A (lasts T (x .0) (x .3) ws)) (fact 𝓤 (φ (x .0) (x .3) r)))) $
+        heard t (φ (x .0) (x .3) r) (λ e.
         split t $ move t (1 ∷ []) $ peeks t Result (Is Result) (shows 𝓤 H A Result) r (u ∷ []) (k r e)))
 
 -- ---- the two shapes
@@ -93,7 +97,11 @@ abbrev pub OnReader : Ended
 OnReader = record { signature = record { lifetimes = 1; outlives = []; params = plain reader ∷ []; result = plain heads }; kept = (yes, tt) }
 
 abbrev pub OnParts : Ended
-OnParts = record { signature = record { lifetimes = 1; outlives = []; params = plain slice ∷ plain (λ _. usize) ∷ []; result = plain heads }; kept = (yes, (yes, tt)) }
+OnParts =
+    record {
+      signature = record { lifetimes = 1; outlives = []; params = plain slice ∷ plain (λ _. usize) ∷ []; result = plain heads };
+      kept = (yes, (yes, tt));
+    }
 
 abbrev pub At : Fact OnReader
 At κs a h = h ≡ headAt (now (a .0 .file)) (a .0 .at)
@@ -128,7 +136,8 @@ module _ {M : Type 1} (𝓤 : URA M) (H : Heap 𝓤) (A : Atoms 𝓤) (κs : Lft
   pub opened : Given 𝓤 H A → ent 𝓤 (onEntry 𝓤 H A (OnReader .signature) κs qs (onReader .3) (onReader .4)) (Says 𝓤 H A OnParts AtParts .pre (onParts, tt))
   opened W =
       qed W (Token 𝓤 H A κs qs ∷ ‵ (owns (reader κs ∷ []) (onReader .3) (onReader .4)) ∷ []) ∵ move ! (1 ∷ []) $ fsplit ! $ move ! (1 ∷ []) $ drop ! $
-      use1 W (given (R′.lowered (made file at) ∷ [] ≡ R′.lowered (made file at) ∷ []) (‵ (all-own (Struct κs .parts) (laws κs) fields))) (own-open 𝓤 H A W (Struct κs) (laws κs) fields (R′.lowered (made file at))) $ learn ! (λ _.
+      use1 W (given (R′.lowered (made file at) ∷ [] ≡ R′.lowered (made file at) ∷ []) (‵ (all-own (Struct κs .parts) (laws κs) fields)))
+      (own-open 𝓤 H A W (Struct κs) (laws κs) fields (R′.lowered (made file at))) $ learn ! (λ _.
       move ! (1 ∷ 0 ∷ []) $ join ! $ by ! (asked 𝓤 H A OnParts AtParts W onParts))
 
   pub shut : Given 𝓤 H A → ent 𝓤 (onEntry 𝓤 H A (OnParts .signature) κs qs (onParts .3) (onParts .4)) (Says 𝓤 H A OnReader At .pre (onReader, tt))
@@ -138,22 +147,28 @@ module _ {M : Type 1} (𝓤 : URA M) (H : Heap 𝓤) (A : Atoms 𝓤) (κs : Lft
       nothing ! $ move ! (1 ∷ 0 ∷ []) $ fjoin ! $ move ! (1 ∷ 0 ∷ []) $ join ! $ by ! (asked 𝓤 H A OnReader At W onReader)
 
 -- ---- a walk of the code e: the parameters stand in the machine as sp says, and at exit hs is had of them
-module _ {M : Type 1} (𝓤 : URA M) (H : Heap 𝓤) (A : Atoms 𝓤) (T : Ended) (hs : Stays (T .signature .params) (T .kept)) (φ : Fact T) (sp : (κs : Lfts (T .signature .lifetimes)) → Spells (typesAt (T .signature .params) κs)) (C : Calls 𝓤 H) (Λ : Loops 𝓤 H) (e : Code) where
+module _ {M : Type 1} (𝓤 : URA M) (H : Heap 𝓤) (A : Atoms 𝓤) (T : Ended) (hs : Stays (T .signature .params) (T .kept)) (φ : Fact T)
+    (sp : (κs : Lfts (T .signature .lifetimes)) → Spells (typesAt (T .signature .params) κs)) (C : Calls 𝓤 H) (Λ : Loops 𝓤 H) (e : Code) where
   abbrev pub Walk : Type 1
-  Walk = (κs : Lfts (T .signature .lifetimes)) (qs : Shares (T .signature .lifetimes)) (b : AllOutlive (T .signature .lifetimes) (T .signature .outlives) κs) (a : Args (T .signature) κs)
+  Walk = (κs : Lfts (T .signature .lifetimes)) (qs : Shares (T .signature .lifetimes)) (b : AllOutlive (T .signature .lifetimes) (T .signature .outlives) κs)
+      (a : Args (T .signature) κs)
       → Are (typesAt (T .signature .params) κs) (Ises (typesAt (T .signature .params) κs)) a (valss (typesAt (T .signature .params) κs) (sp κs) a)
       → ent 𝓤 (onEntry 𝓤 H A (T .signature) κs qs a (valss (typesAt (T .signature .params) κs) (sp κs) a))
-      (WpFn 𝓤 H C Λ e (flat (typesAt (T .signature .params) κs) (valss (typesAt (T .signature .params) κs) (sp κs) a)) (walkOf 𝓤 H A T hs (Saying 𝓤 H A T φ) .post ((κs, qs, b, a, valss (typesAt (T .signature .params) κs) (sp κs) a), tt)))
+      (WpFn 𝓤 H C Λ e (flat (typesAt (T .signature .params) κs) (valss (typesAt (T .signature .params) κs) (sp κs) a))
+      (walkOf 𝓤 H A T hs (Saying 𝓤 H A T φ) .post ((κs, qs, b, a, valss (typesAt (T .signature .params) κs) (sp κs) a), tt)))
 
 -- e is the entry k of the tables
-module _ {M : Type 1} (𝓤 : URA M) (H : Heap 𝓤) (𝓜 : Model 𝓤 H) (𝓖 : GhostRules 𝓤 H) (𝓡 : Running 𝓤 H 𝓜) (T : Ended) (hs : Stays (T .signature .params) (T .kept)) (φ : Fact T) (sp : (κs : Lfts (T .signature .lifetimes)) → Spells (typesAt (T .signature .params) κs)) (γ : Env) (k : Name) (e : Code) where
+module _ {M : Type 1} (𝓤 : URA M) (H : Heap 𝓤) (𝓜 : Model 𝓤 H) (𝓖 : GhostRules 𝓤 H) (𝓡 : Running 𝓤 H 𝓜) (T : Ended)
+    (hs : Stays (T .signature .params) (T .kept)) (φ : Fact T)
+    (sp : (κs : Lfts (T .signature .lifetimes)) → Spells (typesAt (T .signature .params) κs)) (γ : Env) (k : Name) (e : Code) where
   abbrev at : MachineTables 𝓤 H 𝓜
   at = tables 𝓤 H 𝓜 𝓡 γ
 
   abbrev W : Given 𝓤 H (𝓖 .A)
   W = givenOf 𝓤 H 𝓜 𝓖
 
-  pub meets : Closed 𝓤 H (at .C) (at .Λ) k e → AllGo 𝓤 H (𝓖 .A) W (T .signature .lifetimes) (T .signature .params) (T .kept) hs → ((κs : Lfts (T .signature .lifetimes)) → Tellss (typesAt (T .signature .params) κs) (Ises (typesAt (T .signature .params) κs)) (sp κs))
+  pub meets : Closed 𝓤 H (at .C) (at .Λ) k e → AllGo 𝓤 H (𝓖 .A) W (T .signature .lifetimes) (T .signature .params) (T .kept) hs
+      → ((κs : Lfts (T .signature .lifetimes)) → Tellss (typesAt (T .signature .params) κs) (Ises (typesAt (T .signature .params) κs)) (sp κs))
       → (FmC 𝓤 H (W .laws) (at .C) → Walk 𝓤 H (𝓖 .A) T hs φ sp (at .C) (at .Λ) e) → Triple 𝓤 (at .C k) (Says 𝓤 H (𝓖 .A) T φ)
   unfolding tablesOf
   meets closed gs tl walk =
