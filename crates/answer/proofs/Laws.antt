@@ -1,31 +1,33 @@
 -- The answers before the one asked, and the checks.
 use Prim.Native.Nat.{ℕ, zero, suc, _+_, _-_, _*_, _≤_, _<_}
 use mathlib.Core.Path.{_≡_, refl, sym, _∙_, ap, subst}
-use mathlib.Core.Bool.{Bool, true, false, not}
+use mathlib.Core.Bool.{Bool, true, false}
 use mathlib.Core.List.{List, [], _∷_}
 use native.Mathlib.Omega.{arith}
 use native.Mathlib.Numerals.{add-one}
 use native.Mathlib.Nat.{sub-zero}
-use lib.ListN.{length, getD}
+use lib.Dec.{ltb}
+use lib.ListN.{length}
 use mir.Val as Val
-use mir.Syntax.{w8, w16}
+use mir.Syntax.{w16}
 use borrow.Author.Tests.{lt-ltb, le-ltb}
 use Rattle.base.specs.Pick.{pick}
-use Rattle.utf8.specs.Utf8.{wellFormed}
 use Rattle.refusal.specs.declared.Refusal.{Refusal}
+use Rattle.refusal.specs.declared.OptRefusal.the-variants.{Some, None}
 use Rattle.records.specs.declared.Config.{Config}
 use Rattle.sign.specs.Sign.{Font, Sign, Accepted, signFile}
-use Rattle.sign.specs.Given.{given as tableOf}
 use Rattle.sign.specs.declared.SignFile.{SignFile}
-use Rattle.sign.specs.declared.Outcome.the-variants.{Accepted as AcceptedOutcome, RefusedAt as RefusedOutcome}
-use Rattle.sign.proofs.Answer.{Accepts, accepts, refuses}
+use Rattle.admit.specs.Admission.{Admission, admission}
+use Rattle.admit.specs.Handed.{handed}
+use Rattle.admit.specs.declared.Admitted.{Admitted}
+use Rattle.admit.proofs.Laws.{Opens, denied-is, opens}
 use Rattle.layout.specs.declared.Span.{Span}
 use Rattle.layout.specs.declared.Answer.{Answer}
 use Rattle.layout.specs.declared.Answer.the-variants.{On, Off, End, Refused}
 use Rattle.layout.specs.Types.{items, Board}
 use Rattle.refusal.specs.Refusals.{refusal}
 use Rattle.layout.specs.Fonts.{meterOf, boardOf}
-use Rattle.layout.specs.Listing.{Page, on, off, refused as refusedPage, pages, answerOf, recordsOf, Result, said, past, numbered, checked, resultOn, result}
+use Rattle.layout.specs.Listing.{Page, on, off, refused as refusedPage, pages, answerOf, recordsOf, Result, said, past, numbered, resultOn, result}
 use Rattle.layout.proofs.Room.{result-room}
 use Rattle.rows.specs.Rows.{spansOf}
 use Rattle.rows.proofs.Laws.{spans-length}
@@ -36,7 +38,7 @@ use Rattle.pages.specs.declared.NextPage.{NextPage}
 use Rattle.pages.specs.declared.NextPage.the-variants.{Page as NextShown, End as NextNone, Refused as NextRefused}
 use Rattle.pages.specs.Pages.{boardIn, Ready, firstOf, todo, shownPage, nextTold, InMessage, weight, IfShown, Advances, NextAsked, NextRead}
 use Rattle.pages.proofs.Answers.{pages-todo, first-in}
-use Rattle.answer.specs.Answer.{writtenBy, told, answerBy, Answerable, countOf, RecordRoom, Numbered, Checked, Computed}
+use Rattle.answer.specs.Answer.{writtenBy, told, answerBy, Answerable, countOf, RecordRoom, Numbered, Listable, Listed, Computed}
 
 -- ---- an answer of a page
 
@@ -188,69 +190,48 @@ module _ {file : List ℕ} {table : SignFile} {msg : List ℕ} {number : ℕ} {r
     pub numbered-asked : {r : Answer} → number ≤ i → r ≡ answerBy t i → Tells r
     numbered-asked h c = subst Tells (sym c) (record { ends = asked (number - i) t (omega arith) ∙ here refl; few = few t (read .next); room = numbered-room })
 
--- ---- the checks
-
-not-true : (w : Bool) → not w ≡ true → w ≡ false
-not-true true e = absurd (let z : _≡_ {A = ℕ} 0 1 = cc in omega arith)
-not-true false e = refl
-
-not-false : (w : Bool) → not w ≡ false → w ≡ true
-not-false true e = refl
-not-false false e = absurd (let z : _≡_ {A = ℕ} 0 1 = cc in omega arith)
+-- ---- 4
 
 module _ (file : List ℕ) (table : SignFile) (msg : List ℕ) (n room : ℕ) (out : List ℕ) where
-  abbrev Checks : List ℕ → Answer → Type 0
-  Checks = Checked file table msg n room out
+  abbrev Lists : List ℕ → Answer → Type 0
+  Lists = Listed file table msg n room out
 
-  -- a refusal, which has no records
-  refused-so : {r : Answer} (x : Refusal) → r ≡ Refused x → said (Refused x) ≡ checked (boardIn file msg (table .config)) msg n room → Checks out r
-  refused-so x e d = subst (Checks out) (sym e) (record { ends = d; few = omega arith; long = refl })
+  pub no-room : {r : Answer} → room < 1400 → r ≡ Refused (refusal 4 0 0 0) → Lists out r
+  no-room g e = subst (Lists out) (sym e) (record { ends = rw (lt-ltb room 1400 g); few = omega arith; long = refl })
 
-  pub too-long : {r : Answer} → 2048 < length msg → r ≡ Refused (refusal 2 0 0 0) → Checks out r
-  too-long h e = refused-so (refusal 2 0 0 0) e (rw (lt-ltb 2048 (length msg) h))
+  pub all-well : {out′ : List ℕ} {r : Answer} → 1400 ≤ room → Listable file table msg out → Numbered file table msg n out out′ r → Lists out′ r
+  all-well g q d = record { ends = rw (le-ltb room 1400 g) (d .ends); few = omega (arith, q .room, d .few); long = d .room }
 
-  -- w: the message is well-formed
-  module _ {r : Answer} (w : Bool) (h : length msg ≤ 2048) (e : w ≡ wellFormed msg) where
-    pub ill-formed : not w ≡ true → r ≡ Refused (refusal 3 0 0 0) → Checks out r
-    ill-formed f d = refused-so (refusal 3 0 0 0) d (rw (le-ltb 2048 (length msg) h, ← e, not-true w f))
+-- ---- the call
 
-    pub no-room : not w ≡ false → room < 1400 → r ≡ Refused (refusal 4 0 0 0) → Checks out r
-    no-room f g d = refused-so (refusal 4 0 0 0) d (rw (le-ltb 2048 (length msg) h, ← e, not-false w f, lt-ltb room 1400 g))
+board-is : (file msg : List ℕ) (c : Config) (fs : List Font) → signFile file ≡ Accepted c fs → boardIn file msg c ≡ boardOf msg c fs
+unfolding boardOf meterIn
+board-is file msg c fs q = ap (λ (x : Sign). record { config = c; meter = meterOf msg (fontsIn x) }) q
 
-    pub all-well : {out′ : List ℕ} → not w ≡ false → 1400 ≤ room → Numbered file table msg n out out′ r → RecordRoom msg out → Checks out′ r
-    all-well f g d q =
-        record {
-          ends = rw (le-ltb 2048 (length msg) h, ← e, not-false w f, le-ltb room 1400 g) (d .ends);
-          few = omega (arith, q h, d .few);
-          long = d .room;
-        }
-
--- ---- the sign file
-
-module _ (file : List ℕ) {t : SignFile} (e : t ≡ tableOf (signFile file)) where
-  board-is : (msg : List ℕ) (c : Config) (fs : List Font) → signFile file ≡ Accepted c fs → boardIn file msg c ≡ boardOf msg c fs
-  unfolding boardOf meterIn
-  board-is msg c fs q = ap (λ (x : Sign). record { config = c; meter = meterOf msg (fontsIn x) }) q
-
-  pub sign-good : ((i : ℕ) → Val.Fits w8 (getD file i 0)) → t .outcome ≡ AcceptedOutcome
-      → {msg : List ℕ} {n room : ℕ} {out out′ : List ℕ} {r : Answer} → Checked file t msg n room out out′ r → Computed file msg n room out out′ r
+-- x is the answer of `admit`
+module _ (file msg : List ℕ) {x : Admitted} (e : x ≡ handed (admission file msg) (signFile file)) where
+  pub call-denied : {y : Refusal} → x .denied ≡ Some y → (n room : ℕ) (out : List ℕ) {r : Answer} → r ≡ Refused y → Computed file msg n room out out r
   unfolding result
-  sign-good b h {msg} {n} {room} d =
-      let a : Accepts file t = accepts file t e (λ i. omega (arith, b i)) h in
-      record {
-        ends =
-            d .ends ∙ ap (λ (y : Board). checked y msg n room) (board-is msg (t .config) (a .fs) (a .is))
-            ∙ ap (λ (y : Sign). resultOn y msg n room) (sym (a .is));
-        few = d .few;
-        long = d .long;
-      }
-
-  pub sign-bad : {at : ℕ} → t .outcome ≡ RefusedOutcome at → (msg : List ℕ) (n room : ℕ) (out : List ℕ) {r : Answer} → r ≡ Refused (refusal 1 at 0 0)
-      → Computed file msg n room out out r
-  unfolding result
-  sign-bad {at} h msg n room out d =
+  call-denied h n room out d =
       subst (Computed file msg n room out out) (sym d)
-      (record { ends = ap (λ (y : Sign). resultOn y msg n room) (sym (refuses file t e at h)); few = omega arith; long = refl })
+      (record { ends = ap (λ (a : Admission). resultOn a msg n room) (sym (denied-is file msg e h)); few = omega arith; long = refl })
+
+  module _ (h : x .denied ≡ None) where
+    pub call-listable : {out : List ℕ} → RecordRoom msg out → Listable file (x .table) msg out
+    call-listable q =
+        let o : Opens file msg (x .table) = opens file msg e h in
+        record { opened = (o .table, o .accepted); small = o .admits-it .small; room = q (o .admits-it .small) }
+
+    pub call-listed : {n room : ℕ} {out out′ : List ℕ} {r : Answer} → Listed file (x .table) msg n room out out′ r → Computed file msg n room out out′ r
+    unfolding result
+    call-listed {n} {room} d =
+        let o : Opens file msg (x .table) = opens file msg e h in
+        let after : Board → Result = λ y. pick (ltb room 1400) (said (Refused (refusal 4 0 0 0))) (numbered 0 (pages y (items msg)) n) in
+        record {
+          ends = d .ends ∙ ap after (board-is file msg (x .table .config) (o .fs) (o .admits-it .sign)) ∙ ap (λ (a : Admission). resultOn a msg n room) (sym (o .is));
+          few = d .few;
+          long = d .long;
+        }
 
 -- ---- the count of the records
 

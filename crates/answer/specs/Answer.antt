@@ -2,14 +2,16 @@
 use Prim.Native.Nat.{ℕ, _≤_, _<_}
 use mathlib.Core.Path.{_≡_}
 use mathlib.Core.List.{List, []}
+use lib.Dec.{ltb}
 use lib.ListN.{length}
 use Rattle.base.specs.Pick.{pick}
+use Rattle.refusal.specs.Refusals.{refusal}
 use Rattle.sign.specs.declared.SignFile.{SignFile}
 use Rattle.layout.specs.declared.Span.{Span}
 use Rattle.layout.specs.declared.Answer.{Answer}
 use Rattle.layout.specs.declared.Answer.the-variants.{On, Off, End, Refused}
 use Rattle.layout.specs.Types.{items}
-use Rattle.layout.specs.Listing.{Result, pages, numbered, checked, result}
+use Rattle.layout.specs.Listing.{Result, said, pages, numbered, result}
 use Rattle.rows.specs.Rows.{SpanRoom, spansOf}
 use Rattle.meter.specs.Gauges.{AcceptedTable}
 use Rattle.pages.specs.Pages.{boardIn, IfShown}
@@ -60,14 +62,10 @@ pub record Numbered (file : List ℕ) (table : SignFile) (msg : List ℕ) (numbe
   pub few : countOf r ≤ length msg
   pub room : length out′ ≡ length out
 
--- any message for an accepted file
-pub record CheckAsked (file : List ℕ) (table : SignFile) (msg out : List ℕ) : Type 0 where
-  pub opened : AcceptedTable file table
-  pub room : RecordRoom msg out
-
--- the answer of a number, after the checks of the message
-pub record Checked (file : List ℕ) (table : SignFile) (msg : List ℕ) (number room : ℕ) (out out′ : List ℕ) (r : Answer) : Type 0 where
-  pub ends : told r out′ ≡ checked (boardIn file msg (table .config)) msg number room
+-- the answer of a number, with room records lent
+pub record Listed (file : List ℕ) (table : SignFile) (msg : List ℕ) (number room : ℕ) (out out′ : List ℕ) (r : Answer) : Type 0 where
+  pub ends : told r out′
+      ≡ pick (ltb room 1400) (said (Refused (refusal 4 0 0 0))) (numbered 0 (pages (boardIn file msg (table .config)) (items msg)) number)
   pub few : SpanRoom (countOf r) out
   pub long : length out′ ≡ length out
 

@@ -2,28 +2,15 @@
 ghost use mathlib.Core.Path.{_≡_};
 ghost use Prim.Native.Nat.{_*_, _≤_};
 ghost use lib.ListN.{length};
-ghost use Rattle.refusal.specs.Refusals.{refusal as refusalOf};
 ghost use Rattle.layout.specs.Listing.{result};
 ghost use Rattle.pages.specs.Pages.{Ready};
-ghost use Rattle.answer.specs.Answer.{answerBy, Answerable, countOf, RecordRoom, Numbered, Listable, CheckAsked, Checked, Computed};
+ghost use Rattle.answer.specs.Answer.{answerBy, Answerable, countOf, RecordRoom, Numbered, Listable, Listed, Computed};
 ghost use Rattle.rows.specs.Rows.{spansOf};
 use layout::Answer;
 use pages::NextPage;
+use refusal::OptRefusal;
 use refusal::Refusal;
-use sign::Outcome;
 use sign::SignFile;
-
-// A refusal of the whole call.
-fn refuse(number: u8, start: u16) -> Answer
-    ensures { λ r. ⌜ r ≡ Answer.Refused (refusalOf number start 0 0) ⌝ }
-{
-    Answer::Refused(Refusal {
-        number,
-        start,
-        length: 0,
-        detail: 0,
-    })
-}
 
 // The answer that comes next, after count others.
 fn answer_of(n: NextPage, count: usize) -> Answer
@@ -86,8 +73,8 @@ fn paged(file: &[u8], table: SignFile, msg: &[u8], number: usize, out: &mut [u16
     numbered(file, table, msg, number, &mut rows, out)
 }
 
-// The checks of a message, with an accepted sign file.
-fn checked(
+// 4, the listing's own refusal of a call, and the answer: sign file and message are admitted.
+fn listed(
     file: &[u8],
     table: SignFile,
     msg: &[u8],
@@ -95,17 +82,16 @@ fn checked(
     room: usize,
     out: &mut [u16],
 ) -> Answer
-    requires { ⌜ CheckAsked (now file) table (now msg) (now out) ⌝ }
-    ensures { λ r. ⌜ Checked (now (file .entry)) table (now (msg .entry)) number room (now (out .entry)) (now (out .exit)) r ⌝ }
+    requires { ⌜ Listable (now file) table (now msg) (now out) ⌝ }
+    ensures { λ r. ⌜ Listed (now (file .entry)) table (now (msg .entry)) number room (now (out .entry)) (now (out .exit)) r ⌝ }
 {
-    if 2048 < msg.len() {
-        return refuse(2, 0);
-    }
-    if !utf8::well_formed(msg) {
-        return refuse(3, 0);
-    }
     if room < 1400 {
-        return refuse(4, 0);
+        return Answer::Refused(Refusal {
+            number: 4,
+            start: 0,
+            length: 0,
+            detail: 0,
+        });
     }
     paged(file, table, msg, number, out)
 }
@@ -115,11 +101,11 @@ pub fn compute(file: &[u8], msg: &[u8], number: usize, room: usize, out: &mut [u
     requires { ⌜ RecordRoom (now msg) (now out) ⌝ }
     ensures { λ r. ⌜ Computed (now (file .entry)) (now (msg .entry)) number room (now (out .entry)) (now (out .exit)) r ⌝ }
 {
-    let table = sign::read_sign(file);
-    let outcome = table.outcome;
-    match outcome {
-        Outcome::Accepted => checked(file, table, msg, number, room, out),
-        Outcome::RefusedAt(at) => refuse(1, at as u16),
+    let call = admit::admit(file, msg);
+    let denied = call.denied;
+    match denied {
+        OptRefusal::Some(r) => Answer::Refused(r),
+        OptRefusal::None => listed(file, call.table, msg, number, room, out),
     }
 }
 

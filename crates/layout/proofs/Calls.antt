@@ -7,16 +7,18 @@ use mathlib.Core.List.{List, [], _∷_, _++_}
 use lib.ListN.{length, drop}
 use lib.Seq.{take-append-seam}
 use Rattle.records.specs.declared.Config.{Config}
-use Rattle.sign.specs.Sign.{Font, Sign, Accepted, RefusedAt, signFile}
+use Rattle.sign.specs.Sign.{Font}
+use Rattle.refusal.specs.declared.Refusal.{Refusal}
+use Rattle.admit.specs.Admission.{Admission, denied, admitted, admission}
+use Rattle.admit.proofs.Laws.{admits}
 use Rattle.layout.specs.declared.Span.{Span}
 use Rattle.layout.specs.declared.Answer.{Answer}
 use Rattle.layout.specs.declared.Answer.the-variants.{On, Off, End, Refused}
 use Rattle.layout.specs.Types.{items}
-use Rattle.refusal.specs.Refusals.{refusal}
 use Rattle.layout.specs.Fonts.{boardOf}
 use Rattle.layout.specs.Listing.{Page, on, off, refused, pages, answerOf, recordsOf, Result, past, numbered, resultOn, result, listing, after}
 use Rattle.layout.specs.Demand.{Shows, Whole, counted, listed, Demand3}
-use Rattle.layout.proofs.Checks.{accepted-result, result-on, answer-on}
+use Rattle.layout.proofs.Checks.{admitted-result, result-on, answer-on}
 use Rattle.layout.proofs.Pages.{NoRefusal, records, Told, told}
 
 -- ---- one call that is not refused
@@ -34,10 +36,10 @@ shows-runs (Off d) h = tt
 shows-runs (End n) h = absurd h
 shows-runs (Refused r) h = absurd h
 
-taken : (c : Config) (fs : List Font) (msg : List ℕ) (n room : ℕ) → Runs ((resultOn (Accepted c fs) msg n room) .answer)
-    → resultOn (Accepted c fs) msg n room ≡ numbered 0 (pages (boardOf msg c fs) (items msg)) n
+taken : (c : Config) (fs : List Font) (msg : List ℕ) (n room : ℕ) → Runs ((resultOn (admitted c fs) msg n room) .answer)
+    → resultOn (admitted c fs) msg n room ≡ numbered 0 (pages (boardOf msg c fs) (items msg)) n
 taken c fs msg n room =
-    accepted-result msg n room (λ r. Runs (r .answer) → r ≡ numbered 0 (pages (boardOf msg c fs) (items msg)) n) c fs (λ k _ h. absurd h) (λ p q h. refl)
+    admitted-result msg n room (λ r. Runs (r .answer) → r ≡ numbered 0 (pages (boardOf msg c fs) (items msg)) n) c fs (λ h. absurd h) (λ q h. refl)
 
 -- ---- the answers in a row
 
@@ -119,19 +121,21 @@ module _ (file msg : List ℕ) (lent : ℕ → List Span) where
       ∙ ap (λ (x : List Span). recordsOf p ++ x) (gathered (suc c) (suc i) l (no-refusal-rest p l h) e₁)
       ∙ sym (records-cons p l)
 
-  refused-end : (n k start : ℕ) → signFile file ≡ RefusedAt start → listing file msg n (lent n) ≡ End k → ⊥
-  refused-end n k start e h =
-      let a : listing file msg n (lent n) ≡ Refused (refusal 1 start 0 0) = answer-on file msg n (lent n) (RefusedAt start) e in
+  denied-end : (n k : ℕ) (r : Refusal) → admission file msg ≡ denied r → listing file msg n (lent n) ≡ End k → ⊥
+  denied-end n k r e h =
+      let a : listing file msg n (lent n) ≡ Refused r = answer-on file msg n (lent n) (denied r) e in
       let z : _≡_ {A = ℕ} 0 1 = cc in
       omega arith
 
-  module _ (c : Config) (fs : List Font) (acc : signFile file ≡ Accepted c fs) where
+  module _ (c : Config) (fs : List Font) (acc : admission file msg ≡ admitted c fs) where
     abbrev ps : List Page
     ps = pages (boardOf msg c fs) (items msg)
 
     -- a call that is not refused
     result-is : (n : ℕ) → Runs (listing file msg n (lent n)) → result file msg n (length (lent n)) ≡ numbered 0 ps n
-    result-is n h = result-on file msg n (lent n) (Accepted c fs) acc ∙ taken c fs msg n (length (lent n)) (rw (answer-on file msg n (lent n) (Accepted c fs) acc) at h)
+    result-is n h =
+        result-on file msg n (lent n) (admitted c fs) acc
+        ∙ taken c fs msg n (length (lent n)) (rw (answer-on file msg n (lent n) (admitted c fs) acc) at h)
 
     answer-is : (n : ℕ) → Runs (listing file msg n (lent n)) → listing file msg n (lent n) ≡ (numbered 0 ps n) .answer
     unfolding listing
@@ -157,7 +161,7 @@ module _ (file msg : List ℕ) (lent : ℕ → List Span) where
         record {
           config = c;
           fonts = fs;
-          accepted = acc;
+          accepted = (admits acc) .sign;
           ends = w .ends ∙ ap End (omega (arith, d .count));
           reads = t .reads;
           printing = rw q (t .printing);
@@ -170,8 +174,8 @@ module _ (file msg : List ℕ) (lent : ℕ → List Span) where
 
 -- Demand 3
 pub demand3 : (file msg : List ℕ) (lent : ℕ → List Span) (N : ℕ) → Whole file msg lent N → Demand3 file msg lent N
-demand3 file msg lent N w = go (signFile file) refl
+demand3 file msg lent N w = go (admission file msg) refl
   where
-    go : (s : Sign) → signFile file ≡ s → Demand3 file msg lent N
-    go (Accepted c fs) e = demand-of file msg lent c fs e N w
-    go (RefusedAt start) e = absurd (refused-end file msg lent N (w .answers) start e (w .ends))
+    go : (a : Admission) → admission file msg ≡ a → Demand3 file msg lent N
+    go (admitted c fs) e = demand-of file msg lent c fs e N w
+    go (denied r) e = absurd (denied-end file msg lent N (w .answers) r e (w .ends))

@@ -9,13 +9,11 @@ use mathlib.Core.List.{List, [], _∷_, _++_}
 use lib.Dec.{ltb}
 use borrow.Author.Tests.{ltb-true, ltb-false, le-ltb}
 use lib.ListN.{length}
-use Rattle.sign.specs.Sign.{Sign, Accepted, RefusedAt, signFile}
+use Rattle.admit.specs.Admission.{Admission, denied, admitted, admission}
 use Rattle.refusal.specs.declared.Refusal.{Refusal}
 use Rattle.layout.specs.declared.Span.{Span}
 use Rattle.layout.specs.declared.Answer.{Answer}
 use Rattle.layout.specs.declared.Answer.the-variants.{On, Off, End, Refused}
-use Rattle.base.specs.Pick.{pick}
-use Rattle.utf8.specs.Utf8.{wellFormed}
 use Rattle.layout.specs.declared.RenderState.{RenderState}
 use Rattle.layout.specs.declared.Entry.{Entry}
 use Rattle.records.specs.declared.Config.{Config}
@@ -23,12 +21,12 @@ use Rattle.layout.specs.Types.{Item, items, Board}
 use Rattle.layout.specs.Fonts.{boardOf}
 use Rattle.layout.specs.Place.{passRecords}
 use Rattle.layout.specs.Read.{Scan, Event, pass, close, stop, start, opening, events}
-use Rattle.layout.specs.Listing.{Page, on, off, refused, stopAt, offs, passStop, walk, pages, numbered, listing, Result, refusing, resultOn}
+use Rattle.layout.specs.Listing.{Page, on, off, refused, stopAt, offs, passStop, walk, pages, numbered, listing, Result, resultOn}
 use Rattle.layout.specs.Demand.{Shows}
 use Rattle.layout.specs.Bounds.{breaks, pageBreaks, Stops, StopsBy}
 use Rattle.layout.proofs.Cover.{ReadAs, ends, refuses, goes, emits, cuts, turns, fails, EventsAs, refused-at-once, begun, events-as}
 use Rattle.layout.proofs.Items.{items-honest}
-use Rattle.layout.proofs.Checks.{accepted-result, answer-on}
+use Rattle.layout.proofs.Checks.{admitted-result, answer-on}
 
 -- ---- the pages of a message: two for each end of a page at most
 
@@ -116,15 +114,15 @@ numbered-stops c (off d ∷ l) = numbered-stops (suc c) l
 numbered-stops c (refused x ∷ l) = tt
 
 pub always-stops : (file msg : List ℕ) (lent : ℕ → List Span) → StopsBy file msg lent (2 * suc (pageBreaks (items msg)))
-always-stops file msg lent = look (signFile file) refl
+always-stops file msg lent = look (admission file msg) refl
   where
-    look : (s : Sign) → signFile file ≡ s → StopsBy file msg lent (2 * suc (pageBreaks (items msg)))
-    look (RefusedAt start) e = stop-at file msg lent 0 _ (omega arith) (rw (answer-on file msg 0 (lent 0) (RefusedAt start) e) tt)
-    look (Accepted c fs) e =
+    look : (a : Admission) → admission file msg ≡ a → StopsBy file msg lent (2 * suc (pageBreaks (items msg)))
+    look (denied r) e = stop-at file msg lent 0 _ (omega arith) (rw (answer-on file msg 0 (lent 0) (denied r) e) tt)
+    look (admitted c fs) e =
         let n : ℕ = length (pages (boardOf msg c fs) (items msg)) in
         stop-at file msg lent n _ (pages-le msg (boardOf msg c fs))
-        (rw (answer-on file msg n (lent n) (Accepted c fs) e)
-        (accepted-result msg n (length (lent n)) (λ r. Stops (r .answer)) c fs (λ k _. tt) (λ p q. numbered-stops 0 (pages (boardOf msg c fs) (items msg)))))
+        (rw (answer-on file msg n (lent n) (admitted c fs) e)
+        (admitted-result msg n (length (lent n)) (λ r. Stops (r .answer)) c fs tt (λ q. numbered-stops 0 (pages (boardOf msg c fs) (items msg)))))
 
 -- ---- "From a refused answer on, every later answer is that refusal"
 
@@ -140,27 +138,19 @@ numbered-stays x c (off d ∷ l) (suc n) (suc m) h e = numbered-stays x (suc c) 
 numbered-stays x c (refused r ∷ l) (suc n) (suc m) h e = e
 
 -- with room enough, the result does not depend on it
-room-is : (s : Sign) (msg : List ℕ) (n room : ℕ) → 1400 ≤ room → resultOn s msg n room ≡ resultOn s msg n 1400
-room-is (RefusedAt start) msg n room h = refl
-room-is (Accepted c fs) msg n room h = rw (le-ltb room 1400 h)
+room-is : (a : Admission) (msg : List ℕ) (n room : ℕ) → 1400 ≤ room → resultOn a msg n room ≡ resultOn a msg n 1400
+room-is (denied r) msg n room h = refl
+room-is (admitted c fs) msg n room h = rw (le-ltb room 1400 h)
 
-result-stays : (s : Sign) (msg : List ℕ) (x : Refusal) (n m : ℕ) → n ≤ m → (resultOn s msg n 1400) .answer ≡ Refused x → (resultOn s msg m 1400) .answer ≡ Refused x
-result-stays (RefusedAt start) msg x n m h e = e
-result-stays (Accepted c fs) msg x n m h e = look (ltb 2048 (length msg)) (wellFormed msg) e
-  where
-    at : ℕ → Result
-    at k = numbered 0 (pages (boardOf msg c fs) (items msg)) k
-
-    look : (t u : Bool) → (pick t (refusing 2 0) (pick u (at n) (refusing 3 0))) .answer ≡ Refused x
-        → (pick t (refusing 2 0) (pick u (at m) (refusing 3 0))) .answer ≡ Refused x
-    look true u q = q
-    look false false q = q
-    look false true q = numbered-stays x 0 (pages (boardOf msg c fs) (items msg)) n m h q
+result-stays : (a : Admission) (msg : List ℕ) (x : Refusal) (n m : ℕ) → n ≤ m → (resultOn a msg n 1400) .answer ≡ Refused x
+    → (resultOn a msg m 1400) .answer ≡ Refused x
+result-stays (denied r) msg x n m h e = e
+result-stays (admitted c fs) msg x n m h e = numbered-stays x 0 (pages (boardOf msg c fs) (items msg)) n m h e
 
 pub stays : (file msg : List ℕ) (n m : ℕ) (a b : List Span) (x : Refusal) → n ≤ m → 1400 ≤ length a → 1400 ≤ length b → listing file msg n a ≡ Refused x
     → listing file msg m b ≡ Refused x
 stays file msg n m a b x h p q e =
-    let s : Sign = signFile file in
+    let s : Admission = admission file msg in
     let now : (resultOn s msg n 1400) .answer ≡ Refused x =
     ap (λ (r : Result). r .answer) (sym (room-is s msg n (length a) p)) ∙ sym (answer-on file msg n a s refl) ∙ e in
     answer-on file msg m b s refl ∙ ap (λ (r : Result). r .answer) (room-is s msg m (length b) q) ∙ result-stays s msg x n m h now

@@ -5,11 +5,11 @@ use mathlib.Core.Path.{_≡_, refl, sym, ap, _∙_}
 use mathlib.Core.Bool.{Bool, true, false, not}
 use mathlib.Core.Option.{Option, none, some}
 use mathlib.Core.List.{List, [], _∷_, _++_}
-use lib.Dec.{ltb, eqb}
+use lib.Dec.{eqb}
+use mathlib.Core.Logic.{_⊎_, inl, inr}
 use borrow.Author.Tests.{ne-eqb}
 use lib.ListN.{length}
 use Rattle.base.specs.Pick.{pick}
-use Rattle.utf8.specs.Utf8.{wellFormed}
 use Rattle.value.specs.declared.OptNum.{OptNum}
 use Rattle.value.specs.declared.OptNum.the-variants.{Some, None}
 use Rattle.value.specs.declared.Value.{Value}
@@ -18,7 +18,9 @@ use Rattle.value.specs.Tag.{tagOf, hasTag}
 use Rattle.reading.specs.declared.Item.{Item as Said}
 use Rattle.reading.specs.declared.Item.the-variants.{Is, Fails}
 use Rattle.records.specs.declared.Config.{Config}
-use Rattle.sign.specs.Sign.{Font, Sign, Accepted, RefusedAt, signFile}
+use Rattle.sign.specs.Sign.{Font, RefusedAt, signFile}
+use Rattle.admit.specs.Admission.{Admission, denied, admitted, admission}
+use Rattle.admit.proofs.Laws.{Denies, by-sign, by-length, by-form, denies}
 use Rattle.refusal.specs.declared.Refusal.{Refusal}
 use Rattle.layout.specs.declared.Span.{Span}
 use Rattle.layout.specs.declared.Answer.{Answer}
@@ -36,9 +38,9 @@ use Rattle.font.specs.declared.Measure.the-variants.{Width, Missing}
 use Rattle.layout.specs.Fonts.{versionFault, missing, measureIn, fontFaultIn, charFaultAfter, faultIn, meterOf, boardOf}
 use Rattle.layout.specs.Place.{orElse, unless, firstFault, group, page, faultAt, spanFault, goesBack, backFault, passFault, passRecords}
 use Rattle.layout.specs.Read.{tagged, markItem, scanBy, Scan, scan, Event, pass, close, stop, start, opening, events}
-use Rattle.layout.specs.Listing.{Page, on, off, refused, stopAt, offs, passStop, walk, pages, Result, numbered, refusing, resultOn, listing}
+use Rattle.layout.specs.Listing.{Page, on, off, refused, stopAt, offs, passStop, walk, pages, numbered, resultOn, listing}
 use Rattle.layout.proofs.Cover.{Within, ReadAs, ends, refuses, goes, emits, cuts, turns, fails, EventsAs, refused-at-once, begun, events-as, Honest}
-use Rattle.layout.proofs.Checks.{accepted-result, answer-on}
+use Rattle.layout.proofs.Checks.{admitted-result, answer-on}
 use Rattle.layout.proofs.SignPlace.{sign-start}
 use Rattle.layout.proofs.Items.{AllIn, items-honest, items-in}
 
@@ -283,68 +285,69 @@ answers-in c fs msg n = numbered-in (length msg) 0 (pages (boardOf msg c fs) (it
 
 -- ---- 1 to 3
 
-refusing-number : (k start : ℕ) (x : Refusal) → (refusing k start) .answer ≡ Refused x → x .number ≡ k
-refusing-number k start x e = let q : refusal k start 0 0 ≡ x = cc in ap (λ (r : Refusal). r .number) (sym q)
-
 answers-late : (c : Config) (fs : List Font) (msg : List ℕ) (n : ℕ) (x : Refusal) → (numbered 0 (pages (boardOf msg c fs) (items msg)) n) .answer ≡ Refused x
     → Inside (length msg) x
 answers-late c fs msg n x e = rw e at (answers-in c fs msg n)
 
-result-early : (s : Sign) (msg : List ℕ) (n m p q : ℕ) (x : Refusal) → x .number ≤ 3 → (resultOn s msg n p) .answer ≡ Refused x
-    → (resultOn s msg m q) .answer ≡ Refused x
-result-early (RefusedAt start) msg n m p q x h e = e
-result-early (Accepted c fs) msg n m p q x h e = look (ltb 2048 (length msg)) (wellFormed msg) (ltb p 1400) e
-  where
-    at : ℕ → Result
-    at k = numbered 0 (pages (boardOf msg c fs) (items msg)) k
-
-    look : (t u v : Bool) → (pick t (refusing 2 0) (pick u (pick v (refusing 4 0) (at n)) (refusing 3 0))) .answer ≡ Refused x
-        → (pick t (refusing 2 0) (pick u (pick (ltb q 1400) (refusing 4 0) (at m)) (refusing 3 0))) .answer ≡ Refused x
-    look true u v d = d
-    look false false v d = d
-    look false true true d = absurd (omega (arith, refusing-number 4 0 x d))
-    look false true false d = absurd (omega (arith, (answers-late c fs msg n x d) .late))
+result-early : (a : Admission) (msg : List ℕ) (n m p q : ℕ) (x : Refusal) → x .number ≤ 3 → (resultOn a msg n p) .answer ≡ Refused x
+    → (resultOn a msg m q) .answer ≡ Refused x
+result-early (denied r) msg n m p q x h e = e
+result-early (admitted c fs) msg n m p q x h e =
+    admitted-result msg n p (λ r. r .answer ≡ Refused x → (resultOn (admitted c fs) msg m q) .answer ≡ Refused x) c fs
+    (λ d. let z : refusal 4 0 0 0 ≡ x = cc in absurd (omega (arith, ap (λ (r : Refusal). r .number) z)))
+    (λ _ d. absurd (omega (arith, (answers-late c fs msg n x d) .late))) e
 
 pub early : (file msg : List ℕ) (n m : ℕ) (a b : List Span) (x : Refusal) → x .number ≤ 3 → listing file msg n a ≡ Refused x → listing file msg m b ≡ Refused x
 early file msg n m a b x h e =
-    let s : Sign = signFile file in
+    let s : Admission = admission file msg in
     answer-on file msg m b s refl ∙ result-early s msg n m (length a) (length b) x h (sym (answer-on file msg n a s refl) ∙ e)
 
 -- ---- a refusal's place
 
--- within the message, of a sign file that is accepted
+-- within the message, of 2 and on
 record Elsewhere (msg : List ℕ) (x : Refusal) : Type 0 where
   later : 1 < x .number
   place : x .start + x .length ≤ length msg
 
-accepted-place : (c : Config) (fs : List Font) (msg : List ℕ) (n room : ℕ) (x : Refusal) → (resultOn (Accepted c fs) msg n room) .answer ≡ Refused x
+admitted-place : (c : Config) (fs : List Font) (msg : List ℕ) (n room : ℕ) (x : Refusal) → (resultOn (admitted c fs) msg n room) .answer ≡ Refused x
     → Elsewhere msg x
-accepted-place c fs msg n room x =
-    accepted-result msg n room (λ r. r .answer ≡ Refused x → Elsewhere msg x) c fs
-    (λ k h e. let q : refusal k 0 0 0 ≡ x = cc in rw (← q) (record { later = h; place = omega arith }))
-    (λ p q e. let i : Inside (length msg) x = answers-late c fs msg n x e in record { later = omega (arith, i .late); place = i .place })
+admitted-place c fs msg n room x =
+    admitted-result msg n room (λ r. r .answer ≡ Refused x → Elsewhere msg x) c fs
+    (λ e. let q : refusal 4 0 0 0 ≡ x = cc in rw (← q) (record { later = omega arith; place = omega arith }))
+    (λ _ e. let i : Inside (length msg) x = answers-late c fs msg n x e in record { later = omega (arith, i .late); place = i .place })
+
+-- 1 where the sign file is refused; else it lies elsewhere
+record SignRefused (file : List ℕ) (x : Refusal) : Type 0 where
+  one : x .number ≡ 1
+  no-length : x .length ≡ 0
+  is : signFile file ≡ RefusedAt (x .start)
+
+denied-place : {file msg : List ℕ} {x : Refusal} → Denies file msg x → SignRefused file x ⊎ Elsewhere msg x
+denied-place (by-sign e) = inl (record { one = refl; no-length = refl; is = e })
+denied-place (by-length e h) = inr (record { later = omega arith; place = omega arith })
+denied-place (by-form e h f) = inr (record { later = omega arith; place = omega arith })
 
 module _ (file msg : List ℕ) (n : ℕ) (lent : List Span) (x : Refusal) (e : listing file msg n lent ≡ Refused x) where
-  refused-is : (start : ℕ) → signFile file ≡ RefusedAt start → refusal 1 start 0 0 ≡ x
-  refused-is start q =
-      let d : Refused (refusal 1 start 0 0) ≡ Refused x = sym (answer-on file msg n lent (RefusedAt start) q) ∙ e in
-      cc
-
-  accepted-is : (c : Config) (fs : List Font) → signFile file ≡ Accepted c fs → Elsewhere msg x
-  accepted-is c fs q = accepted-place c fs msg n (length lent) x (sym (answer-on file msg n lent (Accepted c fs) q) ∙ e)
+  placed : SignRefused file x ⊎ Elsewhere msg x
+  placed = look (admission file msg) refl
+    where
+      look : (a : Admission) → admission file msg ≡ a → SignRefused file x ⊎ Elsewhere msg x
+      look (denied r) q =
+          let d : Refused r ≡ Refused x = sym (answer-on file msg n lent (denied r) q) ∙ e in
+          let same : r ≡ x = cc in
+          denied-place (denies (q ∙ ap denied same))
+      look (admitted c fs) q = inr (admitted-place c fs msg n (length lent) x (sym (answer-on file msg n lent (admitted c fs) q) ∙ e))
 
   pub places : x .start + x .length ≤ length (pick (eqb (x .number) 1) file msg)
-  places = look (signFile file) refl
+  places = look placed
     where
-      look : (s : Sign) → signFile file ≡ s → x .start + x .length ≤ length (pick (eqb (x .number) 1) file msg)
-      look (RefusedAt start) q = rw (← refused-is start q) (omega (arith, sign-start file start q))
-      look (Accepted c fs) q =
-          let i : Elsewhere msg x = accepted-is c fs q in
-          rw (ne-eqb (x .number) 1 (λ z. omega (arith, i .later))) (i .place)
+      look : SignRefused file x ⊎ Elsewhere msg x → x .start + x .length ≤ length (pick (eqb (x .number) 1) file msg)
+      look (inl s) = rw (s .one) (omega (arith, sign-start file (x .start) (s .is), s .no-length))
+      look (inr i) = rw (ne-eqb (x .number) 1 (λ z. omega (arith, i .later))) (i .place)
 
   pub sign : x .number ≡ 1 → signFile file ≡ RefusedAt (x .start)
-  sign one = look (signFile file) refl
+  sign one = look placed
     where
-      look : (s : Sign) → signFile file ≡ s → signFile file ≡ RefusedAt (x .start)
-      look (RefusedAt start) q = q ∙ ap (λ (r : Refusal). RefusedAt (r .start)) (refused-is start q)
-      look (Accepted c fs) q = absurd (omega (arith, (accepted-is c fs q) .later))
+      look : SignRefused file x ⊎ Elsewhere msg x → signFile file ≡ RefusedAt (x .start)
+      look (inl s) = s .is
+      look (inr i) = absurd (omega (arith, i .later))

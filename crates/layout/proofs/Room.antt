@@ -5,7 +5,8 @@ use mathlib.Core.Path.{_≡_, refl, ap}
 use mathlib.Core.Option.{Option, none, some}
 use mathlib.Core.List.{List, [], _∷_, _++_, map}
 use lib.ListN.{length, drop, length-append, length-drop}
-use Rattle.sign.specs.Sign.{Sign, signFile}
+use Rattle.admit.specs.Admission.{admission}
+use Rattle.admit.proofs.Laws.{admits}
 use Rattle.refusal.specs.declared.Refusal.{Refusal}
 use Rattle.layout.specs.declared.Span.{Span}
 use Rattle.layout.specs.declared.Answer.the-variants.{On, Refused}
@@ -93,24 +94,27 @@ pages-small msg s h n =
 
 -- ---- the slice after a call
 
-written-small : (s : Sign) (msg : List ℕ) (n room : ℕ) → length ((resultOn s msg n room) .written) ≤ 1400
-written-small s msg n room =
-    any-result msg n room (λ r. length (r .written) ≤ 1400) (λ k at. omega arith) (λ c fs p q. pages-small msg (boardOf msg c fs) p n) s
+module _ (file msg : List ℕ) (n room : ℕ) where
+  written-small : length ((resultOn (admission file msg) msg n room) .written) ≤ 1400
+  written-small =
+      any-result msg n room (λ r. length (r .written) ≤ 1400) (λ x. omega arith) (admission file msg)
+      (λ c fs e q. pages-small msg (boardOf msg c fs) ((admits e) .small) n)
 
-written-room : (s : Sign) (msg : List ℕ) (n room : ℕ) → length ((resultOn s msg n room) .written) ≤ room
-written-room s msg n room =
-    any-result msg n room (λ r. length (r .written) ≤ room) (λ k at. omega arith) (λ c fs p q. omega (arith, pages-small msg (boardOf msg c fs) p n)) s
+  written-room : length ((resultOn (admission file msg) msg n room) .written) ≤ room
+  written-room =
+      any-result msg n room (λ r. length (r .written) ≤ room) (λ x. omega arith) (admission file msg)
+      (λ c fs e q. omega (arith, pages-small msg (boardOf msg c fs) ((admits e) .small) n))
 
 -- what a call writes is at most 1,400 records, and fits into the slice
 pub result-room : (file msg : List ℕ) (n room : ℕ) → (length ((result file msg n room) .written) ≤ 1400) × (length ((result file msg n room) .written) ≤ room)
 unfolding result
-result-room file msg n room = (written-small (signFile file) msg n room, written-room (signFile file) msg n room)
+result-room file msg n room = (written-small file msg n room, written-room file msg n room)
 
 pub keeps : (file msg : List ℕ) (n : ℕ) (lent : List Span) → length (after file msg n lent) ≡ length lent
 unfolding after result
 keeps file msg n lent =
-    let w : List Span = (resultOn (signFile file) msg n (length lent)) .written in
-    omega (arith, length-append w (drop (length w) lent), length-drop (length w) lent, written-room (signFile file) msg n (length lent))
+    let w : List Span = (resultOn (admission file msg) msg n (length lent)) .written in
+    omega (arith, length-append w (drop (length w) lent), length-drop (length w) lent, written-room file msg n (length lent))
 
 -- "a refusal changes no record of the slice"
 abbrev Quiet : Result → Type 0
@@ -125,14 +129,14 @@ numbered-quiet c (on d rs ∷ l) (suc n) x e = numbered-quiet (suc c) l n x e
 numbered-quiet c (off d ∷ l) (suc n) x e = numbered-quiet (suc c) l n x e
 numbered-quiet c (refused r ∷ l) (suc n) x e = refl
 
-result-quiet : (s : Sign) (msg : List ℕ) (n room : ℕ) → Quiet (resultOn s msg n room)
-result-quiet s msg n room =
-    any-result msg n room Quiet (λ k at x e. refl) (λ c fs p q. numbered-quiet 0 (pages (boardOf msg c fs) (items msg)) n) s
+result-quiet : (file msg : List ℕ) (n room : ℕ) → Quiet (resultOn (admission file msg) msg n room)
+result-quiet file msg n room =
+    any-result msg n room Quiet (λ y x e. refl) (admission file msg) (λ c fs p q. numbered-quiet 0 (pages (boardOf msg c fs) (items msg)) n)
 
 pub unchanged : (file msg : List ℕ) (n : ℕ) (lent : List Span) (x : Refusal) → listing file msg n lent ≡ Refused x → after file msg n lent ≡ lent
 unfolding after listing result
 unchanged file msg n lent x e =
-    ap (λ (w : List Span). w ++ drop (length w) lent) (result-quiet (signFile file) msg n (length lent) x e)
+    ap (λ (w : List Span). w ++ drop (length w) lent) (result-quiet file msg n (length lent) x e)
 
 -- an on answer counts what it wrote
 abbrev Counts : Result → Type 0
@@ -150,5 +154,5 @@ numbered-counts c (refused r ∷ l) (suc n) d k e = absurd (let z : _≡_ {A = �
 pub fits : (file msg : List ℕ) (n : ℕ) (lent : List Span) (d k : ℕ) → listing file msg n lent ≡ On d k → k ≤ 1400
 unfolding listing result
 fits file msg n lent d k =
-    any-result msg n (length lent) (λ r. r .answer ≡ On d k → k ≤ 1400) (λ j at e. absurd (let z : _≡_ {A = ℕ} 0 1 = cc in omega arith))
-    (λ c fs p q e. omega (arith, pages-small msg (boardOf msg c fs) p n, numbered-counts 0 (pages (boardOf msg c fs) (items msg)) n d k e)) (signFile file)
+    any-result msg n (length lent) (λ r. r .answer ≡ On d k → k ≤ 1400) (λ x e. absurd (let z : _≡_ {A = ℕ} 0 1 = cc in omega arith)) (admission file msg)
+    (λ c fs p q e. omega (arith, pages-small msg (boardOf msg c fs) ((admits p) .small) n, numbered-counts 0 (pages (boardOf msg c fs) (items msg)) n d k e))

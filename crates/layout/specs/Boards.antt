@@ -25,6 +25,7 @@ use Rattle.font.specs.Measure.{widened, widthAfter, textWidth}
 use Rattle.layout.specs.Fonts.{measureIn, meterOf, boardOf}
 use Rattle.layout.specs.Read.{step, opening, events}
 use Rattle.layout.specs.Place.{orElse, unless, due, lineGap, beforeOf, afterOf, linesOf, aboveOf, belowOf, xOf, baseOf, recordOf, spanFault, passFault, passRecords}
+use Rattle.admit.specs.Admission.{admission}
 use Rattle.layout.specs.Listing.{pages, Result, result}
 
 -- ---- sign files
@@ -140,5 +141,5 @@ pub record Boards : Type 0 where
   pub short-slice : result boardP (ascii "A") 0 1399 ≡ refused 4 0 0 0
 
 pub boards : Boards
-unfolding times digitOf readFrom readDigits readNumber versionId first extra lowByte high fitsDue afterByte wellFormedFrom wellFormed codeOf codesFrom codes allLatin1 plainLen tagLen restLen slices isPair lastByte shapeOf lower upTo pastSep holds number optional xy rectangle color readOptional optionalVersion justification readXy rectangleOf readRgb rgbOf colorOf newLine newPageTag fontTag justificationLine justificationPage pageTime pageBackground colorForeground colorBackground fourOf fifth colorRectangle lastFour textRectangle spacingCharacter hexadecimalCharacter flashOn flashOff flashTime field pointOf graphicAt graphic spacingCharacterEnd flashEnd textOf manufacturerSpecific manufacturerSpecificEnd movement movementParts movementOf moved movingTextMode movingTextLinear movingText endName firstName nameBy nameOf tagValue fieldTag tagItem textItem itemOf littleAt bodyLen kindOf wholeRecord firstPiece restLenRecord cutFrom pieces configOf sizeOk justOk notZero bitsOk tagsOk configOk isConfig charactersOf fontsOf configIn member isFont bitmapLen isCharacter faultFrom firstBad fault signFile items measureIn meterOf boardOf lookup characterIn widened widthAfter textWidth step opening events orElse unless due lineGap beforeOf afterOf linesOf aboveOf belowOf xOf baseOf recordOf spanFault passFault passRecords pages result dark config character font1 boardP boardM boardC calls board text within lit off end refused
+unfolding times digitOf readFrom readDigits readNumber versionId first extra lowByte high fitsDue afterByte wellFormedFrom wellFormed codeOf codesFrom codes allLatin1 plainLen tagLen restLen slices isPair lastByte shapeOf lower upTo pastSep holds number optional xy rectangle color readOptional optionalVersion justification readXy rectangleOf readRgb rgbOf colorOf newLine newPageTag fontTag justificationLine justificationPage pageTime pageBackground colorForeground colorBackground fourOf fifth colorRectangle lastFour textRectangle spacingCharacter hexadecimalCharacter flashOn flashOff flashTime field pointOf graphicAt graphic spacingCharacterEnd flashEnd textOf manufacturerSpecific manufacturerSpecificEnd movement movementParts movementOf moved movingTextMode movingTextLinear movingText endName firstName nameBy nameOf tagValue fieldTag tagItem textItem itemOf littleAt bodyLen kindOf wholeRecord firstPiece restLenRecord cutFrom pieces configOf sizeOk justOk notZero bitsOk tagsOk configOk isConfig charactersOf fontsOf configIn member isFont bitmapLen isCharacter faultFrom firstBad fault signFile items measureIn meterOf boardOf lookup characterIn widened widthAfter textWidth step opening events orElse unless due lineGap beforeOf afterOf linesOf aboveOf belowOf xOf baseOf recordOf spanFault passFault passRecords pages admission result dark config character font1 boardP boardM boardC calls board text within lit off end refused
 boards = record { empty = refl; ab = refl; right = refl; centre = refl; two-lines = refl; spaced = refl; bracket = refl; full = refl; too-wide = refl; two-digits = refl; stray = refl; back = refl; pages = refl; font-zero = refl; no-code = refl; low = refl; reset = refl; repeated = refl; combined = refl; half = refl; off-grid = refl; forty-nine = refl; fifty = refl; missing-first = refl; scan-first = refl; longest = refl; too-long = refl; no-sign = refl; short-slice = refl }

@@ -5,9 +5,8 @@ use mathlib.Core.List.{List, [], _∷_, _++_}
 use lib.Dec.{ltb}
 use lib.ListN.{length, drop}
 use Rattle.base.specs.Pick.{pick}
-use Rattle.utf8.specs.Utf8.{wellFormed}
 use Rattle.refusal.specs.declared.Refusal.{Refusal}
-use Rattle.sign.specs.Sign.{Sign, Accepted, RefusedAt, signFile}
+use Rattle.admit.specs.Admission.{Admission, denied, admitted, admission}
 use Rattle.layout.specs.declared.Span.{Span}
 use Rattle.layout.specs.declared.Answer.{Answer}
 use Rattle.layout.specs.declared.Answer.the-variants.{On, Off, End, Refused}
@@ -83,26 +82,14 @@ numbered c [] n = said (End c)
 numbered c (p ∷ l) zero = record { answer = answerOf p; written = recordsOf p }
 numbered c (p ∷ l) (suc n) = past p (numbered (suc c) l n)
 
-abbrev pub refusing : ℕ → ℕ → Result
-refusing n start = said (Refused (refusal n start 0 0))
-
--- 2, "the message is longer than 2,048 bytes"; 3, "not well-formed UTF-8"; 4, "the slice has fewer than 1,400 records"
-abbrev pub checked : Board → List ℕ → ℕ → ℕ → Result
-checked s msg n room =
-    pick (ltb 2048 (length msg)) (refusing 2 0)
-    (pick (wellFormed msg)
-    (pick (ltb room 1400) (refusing 4 0)
-    (numbered 0 (pages s (items msg)) n))
-    (refusing 3 0))
-
--- 1, "the sign file breaks a rule above", comes first
-abbrev pub resultOn : Sign → List ℕ → ℕ → ℕ → Result
-resultOn (RefusedAt start) msg n room = refusing 1 start
-resultOn (Accepted c fs) msg n room = checked (boardOf msg c fs) msg n room
+-- "In checking order": 1 to 3 are every call's, `admission`; then 4, "the slice has fewer than 1,400 records"
+abbrev pub resultOn : Admission → List ℕ → ℕ → ℕ → Result
+resultOn (denied r) msg n room = said (Refused r)
+resultOn (admitted c fs) msg n room = pick (ltb room 1400) (said (Refused (refusal 4 0 0 0))) (numbered 0 (pages (boardOf msg c fs) (items msg)) n)
 
 -- the call: sign file, message, answer number from 0, and the records of the lent slice
 unfoldable pub result : List ℕ → List ℕ → ℕ → ℕ → Result
-result file msg n room = resultOn (signFile file) msg n room
+result file msg n room = resultOn (admission file msg) msg n room
 
 -- the answer
 unfoldable pub listing : List ℕ → List ℕ → ℕ → List Span → Answer

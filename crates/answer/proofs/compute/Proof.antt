@@ -1,5 +1,4 @@
-use Rattle.answer.proofs.Laws.{sign-good, sign-bad}
-use Rattle.answer.proofs.Starts.{start-small}
+use Rattle.answer.proofs.Laws.{call-denied, call-listable, call-listed}
 use borrow.Author.Needs.{needs}
 use Rattle.answer.proofs.compute.Statement.{statement}
 use Rattle.answer.proofs.compute.Tie as tie
@@ -7,12 +6,10 @@ use Rattle.answer.proofs.compute.Tie as tie
 pub compute-spec : {M : Type 1} → statement M
 compute-spec =
     tie.close (tie.spec
-    (λ c κs. search needs)  -- read-sign-requires
+    (λ c κs. search needs)  -- admit-requires
+    (λ c. search needs)  -- enum-known-denied
     (λ c. search needs)  -- enum-told
-    (λ c κs. search needs)  -- checked-requires
-    (λ c. search needs)  -- enum-known-outcome
-    (λ c. search start-small)  -- cast-refuse
-    (λ c κs. search needs)  -- refuse-requires
+    (λ c κs. search call-listable)  -- listed-requires
+    (λ c. search call-denied)  -- returns
     (λ c. search needs)  -- same-length
-    (λ c. search sign-good)  -- returns
-    (λ c. search sign-bad))  -- returns-2
+    (λ c. search call-listed))  -- returns-2

@@ -1,0 +1,12 @@
+use Rattle.answer.proofs.Laws.{no-room, all-well}
+use borrow.Author.Needs.{needs}
+use Rattle.answer.proofs.listed.Statement.{statement}
+use Rattle.answer.proofs.listed.Tie as tie
+
+pub listed-spec : {M : Type 1} → statement M
+listed-spec =
+    tie.close (tie.spec
+    (λ c. search no-room)  -- returns
+    (λ c κs. search needs)  -- paged-requires
+    (λ c. search needs)  -- same-length
+    (λ c. search all-well))  -- returns-2
