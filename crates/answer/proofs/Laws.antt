@@ -38,7 +38,7 @@ use Rattle.pages.specs.declared.NextPage.{NextPage}
 use Rattle.pages.specs.declared.NextPage.the-variants.{Page as NextShown, End as NextNone, Refused as NextRefused}
 use Rattle.pages.specs.Pages.{boardIn, Ready, firstOf, todo, shownPage, nextTold, InMessage, weight, IfShown, Advances, NextAsked, NextRead}
 use Rattle.pages.proofs.Answers.{pages-todo, first-in}
-use Rattle.answer.specs.Answer.{writtenBy, told, answerBy, Answerable, countOf, RecordRoom, Numbered, Listable, Listed, Computed}
+use Rattle.answer.specs.Answer.{writtenBy, told, answerBy, Answerable, countOf, RecordRoom, Numbered, Listable, WithRoom, Computed}
 
 -- ---- an answer of a page
 
@@ -194,7 +194,7 @@ module _ {file : List ℕ} {table : SignFile} {msg : List ℕ} {number : ℕ} {r
 
 module _ (file : List ℕ) (table : SignFile) (msg : List ℕ) (n room : ℕ) (out : List ℕ) where
   abbrev Lists : List ℕ → Answer → Type 0
-  Lists = Listed file table msg n room out
+  Lists = WithRoom file table msg n room out
 
   pub no-room : {r : Answer} → room < 1400 → r ≡ Refused (refusal 4 0 0 0) → Lists out r
   no-room g e = subst (Lists out) (sym e) (record { ends = rw (lt-ltb room 1400 g); few = omega arith; long = refl })
@@ -222,7 +222,7 @@ module _ (file msg : List ℕ) {x : Admitted} (e : x ≡ handed (admission file 
         let o : Opens file msg (x .table) = opens file msg e h in
         record { opened = (o .table, o .accepted); small = o .admits-it .small; room = q (o .admits-it .small) }
 
-    pub call-listed : {n room : ℕ} {out out′ : List ℕ} {r : Answer} → Listed file (x .table) msg n room out out′ r → Computed file msg n room out out′ r
+    pub call-listed : {n room : ℕ} {out out′ : List ℕ} {r : Answer} → WithRoom file (x .table) msg n room out out′ r → Computed file msg n room out out′ r
     unfolding result
     call-listed {n} {room} d =
         let o : Opens file msg (x .table) = opens file msg e h in

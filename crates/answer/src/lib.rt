@@ -4,7 +4,7 @@ ghost use Prim.Native.Nat.{_*_, _≤_};
 ghost use lib.ListN.{length};
 ghost use Rattle.layout.specs.Listing.{result};
 ghost use Rattle.pages.specs.Pages.{Ready};
-ghost use Rattle.answer.specs.Answer.{answerBy, Answerable, countOf, RecordRoom, Numbered, Listable, Listed, Computed};
+ghost use Rattle.answer.specs.Answer.{answerBy, Answerable, countOf, RecordRoom, Numbered, Listable, WithRoom, Computed};
 ghost use Rattle.rows.specs.Rows.{spansOf};
 use layout::Answer;
 use pages::NextPage;
@@ -74,7 +74,7 @@ fn paged(file: &[u8], table: SignFile, msg: &[u8], number: usize, out: &mut [u16
 }
 
 // 4, the listing's own refusal of a call, and the answer: sign file and message are admitted.
-fn listed(
+fn with_room(
     file: &[u8],
     table: SignFile,
     msg: &[u8],
@@ -83,7 +83,7 @@ fn listed(
     out: &mut [u16],
 ) -> Answer
     requires { ⌜ Listable (now file) table (now msg) (now out) ⌝ }
-    ensures { λ r. ⌜ Listed (now (file .entry)) table (now (msg .entry)) number room (now (out .entry)) (now (out .exit)) r ⌝ }
+    ensures { λ r. ⌜ WithRoom (now (file .entry)) table (now (msg .entry)) number room (now (out .entry)) (now (out .exit)) r ⌝ }
 {
     if room < 1400 {
         return Answer::Refused(Refusal {
@@ -105,7 +105,7 @@ pub fn compute(file: &[u8], msg: &[u8], number: usize, room: usize, out: &mut [u
     let denied = call.denied;
     match denied {
         OptRefusal::Some(r) => Answer::Refused(r),
-        OptRefusal::None => listed(file, call.table, msg, number, room, out),
+        OptRefusal::None => with_room(file, call.table, msg, number, room, out),
     }
 }
 

@@ -9,7 +9,7 @@ compute-spec =
     (λ c κs. search needs)  -- admit-requires
     (λ c. search needs)  -- enum-known-denied
     (λ c. search needs)  -- enum-told
-    (λ c κs. search call-listable)  -- listed-requires
+    (λ c κs. search call-listable)  -- with-room-requires
     (λ c. search call-denied)  -- returns
     (λ c. search needs)  -- same-length
     (λ c. search call-listed))  -- returns-2
