@@ -95,7 +95,7 @@ records-cons (on d rs) l = refl
 records-cons (off d) l = refl
 records-cons (refused x) l = refl
 
-past-on : (p : Page) (l : List Page) (r : Result) → NoRefusal (p ∷ l) → past p r ≡ r
+pub past-on : (p : Page) (l : List Page) (r : Result) → NoRefusal (p ∷ l) → past p r ≡ r
 past-on (on d rs) l r h = refl
 past-on (off d) l r h = refl
 past-on (refused x) l r h = absurd h

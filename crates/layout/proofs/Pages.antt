@@ -54,11 +54,11 @@ pub record Walked (s : Board) (evs : List Event) (rs : List Span) (l : List Page
   pub listed : records l ≡ rs ++ placed s evs
   pub fine : EachPass (λ r es. passFault s r es ≡ none) evs
 
-no-stop : (f : Option Refusal) (l : List Page) → NoRefusal (stopAt f l) → (f ≡ none) × NoRefusal l × (stopAt f l ≡ l)
+pub no-stop : (f : Option Refusal) (l : List Page) → NoRefusal (stopAt f l) → (f ≡ none) × NoRefusal l × (stopAt f l ≡ l)
 no-stop none l h = (refl, h, refl)
 no-stop (some r) l h = absurd h
 
-no-offs : (n : ℕ) (l : List Page) → NoRefusal (offs n l) → NoRefusal l × (records (offs n l) ≡ records l)
+pub no-offs : (n : ℕ) (l : List Page) → NoRefusal (offs n l) → NoRefusal l × (records (offs n l) ≡ records l)
 no-offs zero l h = (h, refl)
 no-offs (suc n) l h = (h, refl)
 
@@ -86,7 +86,7 @@ printed-entries-append : (a b : List Entry) → printedEntries (a ++ b) ≡ prin
 printed-entries-append [] b = refl
 printed-entries-append (q ∷ a) b = rw (printed-entries-append a b) (simp append-assoc)
 
-map-append : {A B : Type 0} (f : A → B) (a b : List A) → map f (a ++ b) ≡ map f a ++ map f b
+pub map-append : {A B : Type 0} (f : A → B) (a b : List A) → map f (a ++ b) ≡ map f a ++ map f b
 map-append f [] b = refl
 map-append f (x ∷ a) b = rw (map-append f a b)
 

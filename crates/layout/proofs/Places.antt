@@ -141,11 +141,12 @@ mark-late tags a n (Fails k) h = h
 -- top: the message's length
 module _ (top : ℕ) where
   -- a refusal after 4, with its place in the message
-  record Inside (r : Refusal) : Type 0 where
-    late : 4 < r .number
-    place : r .start + r .length ≤ top
+  pub record Inside (r : Refusal) : Type 0 where
+    pub late : 4 < r .number
+    pub place : r .start + r .length ≤ top
 
-  abbrev Spans : List Entry → Type 0
+  -- each span lies within the message
+  abbrev pub Spans : List Entry → Type 0
   Spans [] = Unit {0}
   Spans (e ∷ es) = (e .start + e .len ≤ top) × Spans es
 
@@ -202,7 +203,7 @@ module _ (top : ℕ) where
 
   -- ---- the events of a message
 
-  abbrev Events : List Event → Type 0
+  abbrev pub Events : List Event → Type 0
   Events [] = Unit {0}
   Events (pass r es ∷ evs) = Spans es × Events evs
   Events (close a b ∷ evs) = Events evs
@@ -218,7 +219,8 @@ module _ (top : ℕ) where
       look : Fault Inside (some r) → Inside r
       look (faulty i) = i
 
-  read-in : {s : Config} {its : List Item} {st : RenderState} {acc : List Entry} {l : List Event} → ReadAs s its st acc l → Honest its
+  -- what is read lies within the message
+  pub read-in : {s : Config} {its : List Item} {st : RenderState} {acc : List Entry} {l : List Event} → ReadAs s its st acc l → Honest its
       → AllIn top its → Spans acc → Events l
   read-in ends o h u = (u, tt)
   read-in (refuses f) o h u = (record { late = f .late; place = omega (arith, f .start, f .length) }, tt)
@@ -228,7 +230,7 @@ module _ (top : ℕ) where
   read-in (turns f q r) o h u = (u, read-in r (o .1) (h .1) tt)
   read-in {s = s} (fails {its = its} {r = r} f q x y e) o h u = (u, (scan-stop s its x y r (o .1) (h .1) e, tt))
 
-  events-in : {s : Config} {its : List Item} {l : List Event} → EventsAs s its l → Honest its → AllIn top its → Events l
+  pub events-in : {s : Config} {its : List Item} {l : List Event} → EventsAs s its l → Honest its → AllIn top its → Events l
   events-in {s = s} {its = its} (refused-at-once {r = r} a b e) o h = (scan-stop s its a b r o h e, tt)
   events-in (begun r) o h = read-in r o h tt
 

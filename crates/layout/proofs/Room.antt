@@ -56,7 +56,7 @@ small-stop : (top : ℕ) (f : Option Refusal) (l : List Page) → Small top l �
 small-stop top none l h = h
 small-stop top (some r) l h = tt
 
-map-length : {A B : Type 0} (f : A → B) (l : List A) → length (map f l) ≡ length l
+pub map-length : {A B : Type 0} (f : A → B) (l : List A) → length (map f l) ≡ length l
 map-length f [] = refl
 map-length f (x ∷ l) = rw (map-length f l)
 

@@ -77,7 +77,7 @@ ruleset tags = (good, bad, pick-tag, number-tag, optional-tag, xy-tag, rectangle
 
 -- the same where a function g follows
 module _ {A : Type 0} (g : A → Parsed) where
-  pick-out : (t : Bool) (a b : A) → g (pick t a b) ≡ pick t (g a) (g b)
+  pub pick-out : (t : Bool) (a b : A) → g (pick t a b) ≡ pick t (g a) (g b)
   pick-out true a b = refl
   pick-out false a b = refl
 

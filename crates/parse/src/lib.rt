@@ -18,8 +18,8 @@ enum ReadMovement {
     Wrong,
 }
 
-// The names of tags; F and G are followed by a number.
-enum Name {
+// The names of tags; F and G are followed by a number. Laws on tags name it.
+pub enum Name {
     Cb,
     Cf,
     Cr,

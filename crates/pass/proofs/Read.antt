@@ -1,4 +1,5 @@
--- layout's `read`, pass by pass.
+-- layout's `read`, pass by pass: an equation for any items, with the blank line and the state that each step leaves. layout's `ReadAs` forgets both, and asks
+-- for honest items, so that the steps are gone through here once more.
 use Prim.Native.Nat.{ℕ}
 use mathlib.Core.Path.{_≡_, refl, _∙_, ap}
 use mathlib.Core.Bool.{Bool, true}

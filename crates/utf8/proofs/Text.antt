@@ -59,10 +59,10 @@ pub ascii-latin1 : (l : List ℕ) (t : Bool) → t ≡ allAscii 1 l → t ≡ tr
 ascii-latin1 l t e p = sym (ascii-codes l (sym e ∙ p))
 
 -- where none is due, a range says nothing
-start-same : (lo hi : ℕ) (l : List ℕ) → wellFormedFrom (due 0 lo hi) l ≡ wellFormed l
+none-due : (d : Due) (l : List ℕ) → eqb (d .left) 0 ≡ true → wellFormedFrom d l ≡ wellFormed l
 unfolding wellFormed wellFormedFrom fits afterByte
-start-same lo hi [] = refl
-start-same lo hi (b ∷ l) = refl
+none-due d [] e = e
+none-due d (b ∷ l) e = rw e
 
 -- the first byte of a text that is well formed, and what is due after it
 head-formed : (b : ℕ) (l : List ℕ) → wellFormed (b ∷ l) ≡ true → (first b ≡ true) × (wellFormedFrom (due (extra b) (low b) (high b)) l ≡ true)
@@ -90,7 +90,7 @@ ended k lo hi w = eqb-true k 0 w
 
 -- the bytes that are due are there, and what follows them is well formed
 due-there : (k lo hi : ℕ) (l : List ℕ) → wellFormedFrom (due k lo hi) l ≡ true → (k ≤ length l) × (wellFormed (drop k l) ≡ true)
-due-there zero lo hi l w = (omega arith, sym (start-same lo hi l) ∙ w)
+due-there zero lo hi l w = (omega arith, sym (none-due (due 0 lo hi) l refl) ∙ w)
 due-there (suc k) lo hi [] w = absurd (omega (arith, ended (suc k) lo hi w))
 due-there (suc k) lo hi (b ∷ l) w =
     let r = due-there k 128 191 l (next-formed k lo hi b l w .2) in
@@ -177,7 +177,7 @@ after-ranged d b = go (eqb (d .left) 0)
 seam : (k lo hi : ℕ) → 128 ≤ lo → hi ≤ 191 → (b : List ℕ) → insideCharacter b 0 ≡ false → wellFormedFrom (due k lo hi) b ≡ true
     → (eqb k 0 ≡ true) × (wellFormed b ≡ true)
 unfolding insideCharacter
-seam zero lo hi g h b s w = (refl, sym (start-same lo hi b) ∙ w)
+seam zero lo hi g h b s w = (refl, sym (none-due (due 0 lo hi) b refl) ∙ w)
 seam (suc k) lo hi g h [] s w = absurd (omega (arith, ended (suc k) lo hi w))
 seam (suc k) lo hi g h (c ∷ b) s w =
     let r = next-formed k lo hi c b w in
@@ -199,6 +199,18 @@ cut a b s w = cut-from (due 0 128 191) (omega arith, omega arith) a b s w
 
 pub cut-at : (l : List ℕ) (k : ℕ) → insideCharacter l k ≡ false → wellFormed l ≡ true → (wellFormed (take k l) ≡ true) × (wellFormed (drop k l) ≡ true)
 cut-at l k s w = cut (take k l) (drop k l) (inside-drop l k ∙ s) (rw (take-append-drop k l) w)
+
+-- and joining two
+joined-from : (d : Due) (a b : List ℕ) → wellFormedFrom d a ≡ true → wellFormed b ≡ true → wellFormedFrom d (a ++ b) ≡ true
+unfolding wellFormedFrom
+joined-from d [] b p q = none-due d b p ∙ q
+joined-from d (x ∷ a) b p q =
+    let r = both (fits d x) (wellFormedFrom (after d x) a) p in
+    rw (r .0, joined-from (after d x) a b (r .1) q)
+
+pub formed-append : (a b : List ℕ) → wellFormed a ≡ true → wellFormed b ≡ true → wellFormed (a ++ b) ≡ true
+unfolding wellFormed
+formed-append a b p q = joined-from (due 0 128 191) a b p q
 
 -- a byte below 128 is no part of a longer character: neither its place nor the next is inside one
 pub at-below : (l : List ℕ) (k : ℕ) → getD l k 0 < 128 → insideCharacter l k ≡ false
@@ -305,7 +317,7 @@ scalars-from : (k lo hi c : ℕ) (l : List ℕ) → wellFormedFrom (due k lo hi)
 unfolding codesFrom
 scalars-from k lo hi c [] w m = absurd (List·Memᴰ·not-nil m)
 scalars-from zero lo hi c (b ∷ l) w m =
-    let v = sym (start-same lo hi (b ∷ l)) ∙ w in
+    let v = sym (none-due (due 0 lo hi) (b ∷ l) refl) ∙ w in
     ⊎-elim (λ e. rw e (char-scalar b l v)) (λ n. scalars-from (extra b) (low b) (high b) c l (head-formed b l v .1) n) (List·Memᴰ·cases-cons m)
 scalars-from (suc k) lo hi c (b ∷ l) w m = scalars-from k 128 191 c l (next-formed k lo hi b l w .2) m
 

@@ -4,11 +4,11 @@ ghost use lib.Dec.{ltb};
 ghost use Rattle.base.specs.Pick.{pick};
 ghost use Rattle.utf8.specs.Utf8.{first as firstOf, extra as extraOf, low as lowOf, high as highOf, fits as fitsOf, afterByte as afterOf, wellFormed, allAscii, bits as bitsOf, codes, codeAt, allLatin1, continues as continuesOf, insideCharacter};
 
-// How many bytes of a character are due, and the range of the next one.
-struct Due {
-    left: u8,
-    low: u8,
-    high: u8,
+// How many bytes of a character are due, and the range of the next one. Laws on texts name it.
+pub struct Due {
+    pub left: u8,
+    pub low: u8,
+    pub high: u8,
 }
 
 // A code point, and how many bytes it takes.
