@@ -1,0 +1,32 @@
+-- What is promised of the product, in one reading: each line is a theorem, for every sign file, every message and every lent slice. All of it speaks of
+-- `listing` and `after`, which by the contract of `list` (crates/listing/src/lib.rt) are the answer of the call that runs and the slice that it leaves.
+use Prim.Native.Nat.{ℕ}
+use mathlib.Core.Path.{_≡_}
+use mathlib.Core.List.{List}
+use Rattle.token.specs.Token.{joined, slices}
+use Rattle.refusal.specs.declared.Refusal.{Refusal}
+use Rattle.admit.specs.Admission.{denied, admission}
+use Rattle.layout.specs.declared.Span.{Span}
+use Rattle.layout.specs.declared.Answer.the-variants.{Refused}
+use Rattle.layout.specs.Listing.{listing, after}
+use Rattle.layout.specs.Demand.{Whole, Demand3}
+use Rattle.layout.specs.Bounds.{Bounded}
+use Rattle.layout.specs.Boards.{Boards}
+
+pub record Promises : Type 0 where
+  -- no byte of a message is lost: its slices, joined, are the message
+  pub nothing-lost : (msg : List ℕ) → joined (slices msg) ≡ msg
+  -- refusals 1 to 3 come first, whatever answer is asked for and whatever slice is lent
+  pub checked-first : (file msg : List ℕ) (n : ℕ) (lent : List Span) (r : Refusal) → admission file msg ≡ denied r → listing file msg n lent ≡ Refused r
+  -- "A refusal .. changes no record"
+  pub refusals-change-nothing : (file msg : List ℕ) (n : ℕ) (lent : List Span) (r : Refusal) → listing file msg n lent ≡ Refused r
+      → after file msg n lent ≡ lent
+  -- demand 3, of a whole listing without a refusal: "over all the on answers together each printed character stands in exactly one listed span, and the
+  -- spans come in the message's order; each span lies inside its text rectangle on all four sides; and of two neighbours in one justification group the
+  -- later one's x = the earlier one's x + its width + the spacing due", with its two conditions
+  pub demand-3 : (file msg : List ℕ) (lent : ℕ → List Span) (N : ℕ) → Whole file msg lent N → Demand3 file msg lent N
+  -- of every call, refused or not: the listing ends within "2 × (number of [np] + 1) answers", a page has at most 1,400 records, the slice keeps its length,
+  -- a refusal stays, and its place lies within the message or the sign file
+  pub bounds : (file msg : List ℕ) → Bounded file msg
+  -- document 01's worked boards, and those that catch other readings of its rules
+  pub worked-boards : Boards
