@@ -205,8 +205,8 @@ joined-from : (d : Due) (a b : List ℕ) → wellFormedFrom d a ≡ true → wel
 unfolding wellFormedFrom
 joined-from d [] b p q = none-due d b p ∙ q
 joined-from d (x ∷ a) b p q =
-    let r = both (fits d x) (wellFormedFrom (after d x) a) p in
-    rw (r .0, joined-from (after d x) a b (r .1) q)
+    let r = both (fits d x) (wellFormedFrom (afterByte d x) a) p in
+    rw (r .0, joined-from (afterByte d x) a b (r .1) q)
 
 pub formed-append : (a b : List ℕ) → wellFormed a ≡ true → wellFormed b ≡ true → wellFormed (a ++ b) ≡ true
 unfolding wellFormed
