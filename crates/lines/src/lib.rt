@@ -105,7 +105,7 @@ fn combine(a: TextLine, b: TextLine) -> TextLine
 }
 
 // A line with a span more, or the span's own line.
-fn joined(old: bool, a: TextLine, b: TextLine) -> TextLine
+fn grown(old: bool, a: TextLine, b: TextLine) -> TextLine
     ensures { λ r. ⌜ lineIs r ≡ pick old (combineOf (lineIs a) (lineIs b)) (lineIs b) ⌝ }
 {
     if old {
@@ -159,7 +159,7 @@ fn line_list(rows: &[u16], n: usize, just: u16) -> LineList
             led: e.led,
             lead: e.lead,
         };
-        let line = joined(s.old, old, own);
+        let line = grown(s.old, old, own);
         l.heights[k] = line.height;
         l.font_spacings[k] = line.font_spacing;
         l.led[k] = line.led;
@@ -251,9 +251,10 @@ pub fn offset_vert(p: PageLines, feet: &[u32], line: u8) -> Heights
     ensures { λ r. ⌜ r ≡ heightsIn p (now (feet .entry)) line ⌝ }
 {
     let foot = foot_of(p, feet, line);
+    let rest = p.total - foot;
     Heights {
         above: base::long64(foot),
-        below: base::long64(p.total - foot),
+        below: base::long64(rest),
         fault: p.fault,
         detail: p.detail,
     }

@@ -391,8 +391,16 @@ module _ {c : Config} {q : Rect} {rows : List ℕ} {n : ℕ} {out₀ : List ℕ}
             room = w .room ∙ z .room;
           }
 
--- ---- `place_pass`: b is what `check_justification` answered
+-- ---- `place_pass`
 
+-- a pass without spans
+pub pass-empty : {c : Config} {q : Rect} {rows : List ℕ} {n : ℕ} {out : List ℕ} {at : ℕ} → n ≡ 0 → PassPlaced c q rows n out at out None
+unfolding rowsOf rowsFault rowsRecords orElse
+pass-empty {c} {q} {rows} {n} {out} {at} e =
+    let x : at + n ≡ at = omega arith in
+    record { fault = rw e; written = λ _. ap (spansOf out) x ∙ sym (append-nil (spansOf out at)) ∙ rw e; room = refl }
+
+-- b is what `check_justification` answered
 module _ {c : Config} {q : Rect} {rows : List ℕ} {n : ℕ} {b : OptRefusal} (e : faultIs b ≡ backRows 0 0 0 (rowsOf rows n)) where
   pub pass-back : {out : List ℕ} {at : ℕ} {f : Refusal} → b ≡ Some f → PassPlaced c q rows n out at out (Some f)
   unfolding rowsFault

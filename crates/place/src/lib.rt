@@ -228,6 +228,9 @@ pub fn place_pass(
     requires { ⌜ Placeable rect (now rows) n (now out) at ⌝ }
     ensures { λ r. ⌜ PassPlaced c rect (now (rows .entry)) n (now (out .entry)) at (now (out .exit)) r ⌝ }
 {
+    if n == 0 {
+        return OptRefusal::None;
+    }
     match check_justification(rows, n) {
         OptRefusal::Some(f) => OptRefusal::Some(f),
         OptRefusal::None => place_rows(c, rect, rows, n, out, at),

@@ -37,15 +37,15 @@ line-list-spec =
     let l : Looped = search in
     gather-skip (l .loop .inv) (t .loop-test .taken) (r .row-at .ensures) (search))  -- loop-again
     (λ c κs. search needs)  -- slot-of-requires
-    (λ c. search needs)  -- mul-t18
-    (λ c. search needs)  -- element-copy-out-t21
-    (λ c. search needs)  -- mul-t22
-    (λ c. search needs)  -- element-copy-out-t25
-    (λ c. search needs)  -- mul-t26
-    (λ c. search needs)  -- element-copy-out-t29
-    (λ c. search needs)  -- mul-first-fault
-    (λ c. search needs)  -- element-copy-out-first-fault
-    (λ c κs. search needs)  -- joined-requires
+    (λ c. search needs)  -- mul-t20
+    (λ c. search needs)  -- element-copy-out-t23
+    (λ c. search needs)  -- mul-t24
+    (λ c. search needs)  -- element-copy-out-t27
+    (λ c. search needs)  -- mul-t28
+    (λ c. search needs)  -- element-copy-out-t31
+    (λ c. search needs)  -- mul-t32
+    (λ c. search needs)  -- element-copy-out-t35
+    (λ c κs. search needs)  -- grown-requires
     (λ c. search needs)  -- mul-l
     (λ c. search needs)  -- element-write-l
     (λ c. search needs)  -- mul-l-2
@@ -61,11 +61,11 @@ line-list-spec =
     (λ c.
     let f : tie.After-earlier Inv-loop μ-loop = search in
     let k : tie.After-font-number Inv-loop μ-loop = search in
-    let j : tie.After-joined Inv-loop μ-loop = search in
+    let j : tie.After-grown Inv-loop μ-loop = search in
     let s : tie.After-slot-of Inv-loop μ-loop = search in
     let r : Read = search in
     let t : Turned = search in
     let l : Looped = search in
-    gather-on (l .loop .inv) (t .loop-test .taken) (r .row-at .ensures) (s .slot-of .result) (j .joined .result) (k .font-number .result)
-    (f .earlier .result) (search) (s .slot-of .ensures) (j .joined .ensures) (k .font-number .ensures) (f .earlier .ensures))  -- loop-again-2
+    gather-on (l .loop .inv) (t .loop-test .taken) (r .row-at .ensures) (s .slot-of .result) (j .grown .result) (k .font-number .result)
+    (f .earlier .result) (search) (s .slot-of .ensures) (j .grown .ensures) (k .font-number .ensures) (f .earlier .ensures))  -- loop-again-2
     (λ c. let l : Looped = search in gather-end (l .loop .inv) (search)))  -- returns

@@ -10,4 +10,4 @@ put-span-spec =
     (λ c. search needs)  -- slice-aggregate-store
     (λ c κs. search needs)  -- store-requires
     (λ c. search needs)  -- same-length
-    (λ c. search span-was-put))  -- returns
+    (λ c. let w : tie.After-store = search in span-was-put _ _ _ _ (w .store .ensures)))  -- returns
