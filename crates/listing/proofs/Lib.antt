@@ -1,4 +1,6 @@
-pub mod Common
-pub mod Facts
+pub mod Counted
+pub mod Filled
+pub mod Lent
 pub mod Loan
-pub mod Walk
+pub mod Thin
+pub mod Through
