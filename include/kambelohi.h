@@ -176,7 +176,8 @@ typedef struct {
  *
  * Asked for answers 0, 1 and on, the end or a refusal comes after at most 2 * (number of [np] + 1) answers. On slices of
  * KAMBELOHI_RECORDS records or more, each answer after a refused one is that refusal, and each after the end is the end
- * again, with the same count. The place of a refusal other than 1 lies within the message.
+ * again, with the same count; 1 to 3 come for every answer number, on slices of any length. The place of 1 lies within the sign
+ * file, that of any other refusal within the message.
  */
 kambelohi_list_answer kambelohi_list(const uint8_t *file, size_t file_len, const uint8_t *msg, size_t msg_len, size_t answer,
                                      kambelohi_span *spans, size_t span_count);
