@@ -115,7 +115,8 @@ module _ (file : List ℕ) {t : SignFile} (e : t ≡ tableOf (signFile file)) wh
       look (RefusedOutcome at) q = omega (arith, start-small file e q)
       look AcceptedOutcome q = tt
 
-  pub handed-is : (msg : List ℕ) {d : OptRefusal} → d ≡ deniedOn (t .outcome) msg → record { denied = d; table = t } ≡ handed (admission file msg) (signFile file)
+  pub handed-is : (msg : List ℕ) {d : OptRefusal} → d ≡ deniedOn (t .outcome) msg
+      → record { denied = d; table = t } ≡ handed (admission file msg) (signFile file)
   unfolding admission
   handed-is msg h =
       let q : _ ≡ deniedIn (admission file msg) = h ∙ ap (λ (x : SignFile). deniedOn (x .outcome) msg) e ∙ told-denied (signFile file) msg in

@@ -228,7 +228,9 @@ module _ (file msg : List ℕ) {x : Admitted} (e : x ≡ handed (admission file 
         let o : Opens file msg (x .table) = opens file msg e h in
         let after : Board → Result = λ y. pick (ltb room 1400) (said (Refused (refusal 4 0 0 0))) (numbered 0 (pages y (items msg)) n) in
         record {
-          ends = d .ends ∙ ap after (board-is file msg (x .table .config) (o .fs) (o .admits-it .sign)) ∙ ap (λ (a : Admission). resultOn a msg n room) (sym (o .is));
+          ends =
+              d .ends ∙ ap after (board-is file msg (x .table .config) (o .fs) (o .admits-it .sign))
+              ∙ ap (λ (a : Admission). resultOn a msg n room) (sym (o .is));
           few = d .few;
           long = d .long;
         }

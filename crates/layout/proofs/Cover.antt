@@ -206,7 +206,8 @@ module _ (s : Config) (st : RenderState) (blank : Bool) (it : Item) where
       pick-all (ValueWithin s st it (TextRectangle r)) (rectFits s (rectOf s r)) (λ q. (record { reads = tt; prints = refl; rect = refl; just = refl }, q))
       (λ _. refused 6 (omega arith))
 
-  said-within : (x : Said) → Within (it .start) (it .len) x → StepWithin s st (record { start = it .start; len = it .len; says = x }) (itemStep s st blank (placeOf it) x)
+  said-within : (x : Said) → Within (it .start) (it .len) x
+      → StepWithin s st (record { start = it .start; len = it .len; says = x }) (itemStep s st blank (placeOf it) x)
   said-within (Is v) h = value-within v h
   said-within (Fails n) h = refused n h
 
