@@ -25,9 +25,8 @@ use denote.Struct.Laws as LL
 use denote.Enum.Laws as EL
 use denote.Steps.{only}
 use denote.Triple.Entry.{Args}
-use denote.Triple.Spec.{Meets, tripleOf}
+use denote.Triple.Spec.{tripleOf}
 use denote.Triple.Statement.{Triple}
-use denote.Triple.Clauses.{closing}
 use Rattle.layout.specs.declared.Span.{Span}
 use Rattle.layout.specs.declared.Answer.{Answer}
 use Rattle.layout.specs.Listing.{result, listing, after}
@@ -35,26 +34,28 @@ use Rattle.layout.proofs.Answer as An
 use Rattle.layout.proofs.Answer.Laws as An′
 use Rattle.rows.specs.Rows.{spansOf}
 use Rattle.rows.proofs.Laws.{spans-length}
-use Rattle.write.specs.Overwrite.{overwrite}
-use Rattle.write.proofs.write_rows as write
-use Rattle.write.proofs.write_rows.Symbol as write-def
+use Rattle.listing.specs.Overwrite.{overwrite}
 use Rattle.answer.specs.declared.AnswerCount.{AnswerCount}
 use Rattle.answer.proofs.AnswerCount as B
 use Rattle.answer.proofs.AnswerCount.Laws as B′
 use Rattle.answer.proofs.counted as counted
 use Rattle.answer.proofs.counted.Symbol as counted-def
 use Rattle.listing.proofs.list as f
-use Rattle.listing.proofs.Thin.{Blocks, envOf, Takes, left-of}
-use Rattle.listing.proofs.Through.{Requires, Plain, Fit, passed}
+use Rattle.listing.proofs.Thin.{left-of, Fits-in, Blocks, envOf, Takes}
+use Rattle.listing.proofs.Through.{Fit, passed, Promise, Met}
 use Rattle.listing.proofs.Lent.{Answered, Left}
-use Rattle.listing.proofs.Filled.{four, slice, args, filled}
+use Rattle.listing.proofs.Writer as writer
+use Rattle.listing.proofs.Writer.{Writing, slice-of}
+use Rattle.listing.proofs.Filled.{four, args, calling, filled}
 
 -- what `counted` asks, and what it tells
 abbrev pub Asks : List ℕ → ℕ → Type 0
 Asks m k = (h : length m ≤ 2048) → 15 * length m ≤ k
 
 abbrev pub Known : List ℕ → List ℕ → ℕ → ℕ → AnswerCount → List ℕ → Type 0
-Known file m n k r zs = (r .answer ≡ (result file m n k) .answer) × (spansOf zs (r .count) ≡ (result file m n k) .written) × (r .count ≤ 1400) × (r .count ≤ k) × (15 * r .count ≤ length zs)
+Known file m n k r zs =
+    (r .answer ≡ (result file m n k) .answer) × (spansOf zs (r .count) ≡ (result file m n k) .written) × (r .count ≤ 1400) × (r .count ≤ k) ×
+    (15 * r .count ≤ length zs)
 
 -- what the listing's contract says
 abbrev pub Listed : List ℕ → List ℕ → ℕ → List Span → Answer → List Span → Type 0
@@ -63,28 +64,48 @@ Listed file m n ys x ws = (x ≡ listing file m n ys) × (ws ≡ after file m n 
 room : (file m : List ℕ) (n k : ℕ) (r : AnswerCount) (zs : List ℕ) → Known file m n k r zs → (r .count ≤ 2048) × (15 * r .count ≤ length zs) × (r .count ≤ k)
 room file m n k r zs known = (omega (arith, known .2), known .4, known .3)
 
-tells : (file m : List ℕ) (n : ℕ) (ys : List Span) (r : AnswerCount) (zs : List ℕ) → Known file m n (length ys) r zs → Listed file m n ys (r .answer) (overwrite zs (r .count) ys)
+tells : (file m : List ℕ) (n : ℕ) (ys : List Span) (r : AnswerCount) (zs : List ℕ) → Known file m n (length ys) r zs
+    → Listed file m n ys (r .answer) (overwrite zs (r .count) ys)
 unfolding listing after
-tells file m n ys r zs known =
-    (known .0, ap (λ (l : List Span). l ++ drop (r .count) ys) (known .1) ∙ ap (λ (j : ℕ). (result file m n (length ys)) .written ++ drop j ys) (sym (spans-length zs (r .count)) ∙ ap length (known .1)))
+tells file m n ys r zs known = (
+  known .0,
+  ap (λ (l : List Span). l ++ drop (r .count) ys) (known .1)
+      ∙ ap (λ (j : ℕ). (result file m n (length ys)) .written ++ drop j ys) (sym (spans-length zs (r .count)) ∙ ap length (known .1)),
+)
+
+told : (r : AnswerCount) (u : Val) → Is B.the-row r (u ∷ []) → u ≡ LL.val B.the-type B′.the-laws r
+told r u is = ap only (LL.tells B.the-type B′.the-laws r (u ∷ []) is)
+
+abbrev answered : Answered B.the-row An.the-row
+answered = record {
+  answer = λ r. r .answer;
+  count = λ r. r .count;
+  answer-is = λ r u is. subst (λ (v : Val). Is An.the-row (r .answer) (getV (fieldsOf v) 0 ∷ [])) (sym (told r u is))
+      (LL.owed B.the-type B′.the-laws r (u ∷ []) is .0);
+  count-is = λ r u is. ap (λ (v : Val). getV (fieldsOf v) 1) (told r u is);
+}
 
 module _ {M : Type 1} (𝓤 : URA M) (H : Heap 𝓤) (A : Atoms 𝓤) (W : Given 𝓤 H A) where
-  abbrev answered : Answered B.the-row B′.mir An.the-row An′.mir
-  answered = record {
-    answer = λ r. r .answer;
-    count = λ r. r .count;
-    fits = λ r u is. LL.lawful B.the-type B′.the-laws 𝓤 H A W .typed r (u ∷ []) is .0;
-    answer-fits = λ x v is. EL.lawful An.the-type An′.the-laws 𝓤 H A W tt .typed x (v ∷ []) is .0;
-    answer-is = λ r u is. subst (λ (v : Val). Is An.the-row (r .answer) (getV (fieldsOf v) 0 ∷ [])) (sym (ap only (LL.tells B.the-type B′.the-laws r (u ∷ []) is))) (LL.owed B.the-type B′.the-laws r (u ∷ []) is .0);
-    count-is = λ r u is. ap (λ (v : Val). getV (fieldsOf v) 1) (ap only (LL.tells B.the-type B′.the-laws r (u ∷ []) is));
-  }
+  fits : (r : AnswerCount) (u : Val) → Is B.the-row r (u ∷ []) → Fits-in B′.mir u
+  fits r u is = LL.lawful B.the-type B′.the-laws 𝓤 H A W .typed r (u ∷ []) is .0
+
+  pub answer-fits : (x : Answer) (v : Val) → Is An.the-row x (v ∷ []) → Fits-in An′.mir v
+  answer-fits x v is = EL.lawful An.the-type An′.the-laws 𝓤 H A W tt .typed x (v ∷ []) is .0
+
+  -- the listing's contract, with req asked of the parameters
+  abbrev pub listing-of : ((κs : Lfts 3) → Args f.signature κs → SProp 𝓤) → Promise 𝓤 f.ended
+  listing-of req = calling 𝓤 An.the-row An′.mir answer-fits Listed req
 
   -- fn is a function that holds an array of N numbers, in the block that `block` gives
-  module _ (mem : Memory → SProp 𝓤) (run : Routine → Fun 𝓤) (𝓣 : Tables 𝓤 H) (N : ℕ) (N-room : Room u16 N) (req : Requires 𝓤 f.ended) (asks : (κs : Lfts 3) (a : Args f.signature κs) → ent 𝓤 (req κs a) (fact 𝓤 (Asks (now (a .1 .0)) N))) where
-    pub lists : Triple 𝓤 (𝓣 .C counted-def.name) (tripleOf 𝓤 H A counted.signature (counted.spec 𝓤 H A mem run)) → Triple 𝓤 (𝓣 .C write-def.name) (tripleOf 𝓤 H A write.signature (write.spec 𝓤 H A mem run))
-        → (fn : Fn) (block : Blocks (fn .locals) → ℕ) → ((κs : Lfts 3) (a : Args f.signature κs) → Fit f.signature four κs a → Takes (fn .locals) (passed f.signature four κs a))
-        → ((κs : Lfts 3) (a : Args f.signature κs) (bs : Blocks (fn .locals)) → left-of (envOf (fn .locals) bs) (fn .body) (passed f.signature four κs a) ≡ Left counted-def.name write-def.name N B′.mir An′.mir (args κs a N) (slice κs a) (block bs))
-        → Meets 𝓤 H A f.signature (WpFn 𝓤 H (𝓣 .C) (𝓣 .Λ) fn) (closing 𝓤 H A f.ended (Plain 𝓤 f.ended req (λ κs a. f.clauses 𝓤 H A mem run κs a .ensures tt)))
-    lists known-counted known-write fn block takes is =
-        filled 𝓤 H A W (𝓣 .C) (fmOf 𝓤 H (W .laws) 𝓣) mem run N N-room counted-def.name B.the-row B′.mir An.the-row An′.mir answered ((EL.makes An.the-type An′.the-plain) 𝓤 H A) Asks Known Listed room tells req asks
-        known-counted known-write (𝓣 .Λ) fn block takes is
+  module _ (mem : Memory → SProp 𝓤) (run : Routine → Fun 𝓤) (𝓣 : Tables 𝓤 H) (N : ℕ) (N-room : Room u16 N) (req : (κs : Lfts 3) → Args f.signature κs → SProp 𝓤)
+      (asks : (κs : Lfts 3) (a : Args f.signature κs) → ent 𝓤 (req κs a) (fact 𝓤 (Asks (now (a .1 .0)) N)))
+      (known-counted : Triple 𝓤 (𝓣 .C counted-def.name) (tripleOf 𝓤 H A counted.signature (counted.spec 𝓤 H A mem run)))
+      (known-write : Triple 𝓤 (𝓣 .C writer.name) (Writing 𝓤 H A mem run)) where
+    pub lists : (fn : Fn) (block : Blocks (fn .locals) → ℕ)
+        → ((κs : Lfts 3) (a : Args f.signature κs) → Fit f.signature four κs a → Takes (fn .locals) (passed f.signature four κs a))
+        → ((κs : Lfts 3) (a : Args f.signature κs) (bs : Blocks (fn .locals)) → left-of (envOf (fn .locals) bs) (fn .body) (passed f.signature four κs a)
+        ≡ Left counted-def.name writer.name N B′.mir An′.mir (args κs a N) (slice-of (a .1 .1 .1 .0)) (block bs))
+        → Met 𝓤 f.ended H A (listing-of req) (WpFn 𝓤 H (𝓣 .C) (𝓣 .Λ) fn)
+    lists fn block takes is =
+        filled 𝓤 H A W (𝓣 .C) (fmOf 𝓤 H (W .laws) 𝓣) mem run N N-room counted-def.name B.the-row B′.mir fits An.the-row An′.mir answer-fits
+        ((EL.makes An.the-type An′.the-plain) 𝓤 H A) answered Asks Known Listed room tells req asks known-counted known-write (𝓣 .Λ) fn block takes is

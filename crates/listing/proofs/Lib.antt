@@ -2,5 +2,8 @@ pub mod Counted
 pub mod Filled
 pub mod Lent
 pub mod Loan
+pub mod Locals
+pub mod Over
 pub mod Thin
 pub mod Through
+pub mod Writer

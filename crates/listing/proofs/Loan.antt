@@ -1,4 +1,5 @@
--- A local array of numbers that is made by a repeat: it is lent to a call as a `&mut [u16]`, then to another as a `&[u16]`, and given up as room. It says nothing of the crate, and holds of any length.
+-- A local array of numbers that is made by a repeat: it is lent to a call as a `&mut [u16]`, then to another as a `&[u16]`, and given up as room. It says
+-- nothing of the crate, and holds of any length.
 --     zeros-typed      the machine value of N zeros has the array's type
 --     lends            N zeros in a local ⊢ ⇛ ∃ γ. own (the `&κ mut [u16]` on them) ∗ the lender's part
 --     lends-on         [†κ] ∗ the lender's part ∗ finally γ zs ⊢ ⇛ ∃ γ′. own (the `&κ′ [u16]` on zs) ∗ the lender's part of that
@@ -64,26 +65,35 @@ module _ {M : Type 1} (𝓤 : URA M) (H : Heap 𝓤) (A : Atoms 𝓤) (W : Given
     Lends κ zs = flent κ (arr-parts (shares u16) n .part fullShare zs b 0)
 
     pub lends : (ℓ : Lifetime) (κ : Lft) → ent 𝓤 (H .at fullShare (array n) b 0 (zeros-val n))
-        (H .⇛ (ex 𝓤 (λ (γ : GName). sep 𝓤 (sem 𝓤 H A (MutSlice ℓ κ u16 .own (on b (replicate n 0) γ) (sliceVal (b, 0) n ∷ []))) (A .lent κ (Held u16 n b 0 γ)))))
+        (H .⇛ (ex 𝓤 (λ (γ : GName). sep 𝓤 (sem 𝓤 H A (MutSlice ℓ κ u16 .own (on b (replicate n 0) γ) (sliceVal (b, 0) n ∷ [])))
+        (A .lent κ (Held u16 n b 0 γ)))))
     lends ℓ κ =
         qed W (‵ (fat fullShare (array n) b 0 (zeros-val n)) ∷ []) ∵ updating ! $
-        owned ! (Array.Array u16 n) (Is (Array.Array u16 n)) (array-makes 𝓤 H A W u16 (uint-makes 𝓤 H A W w16) n) (replicate n 0) (zeros-val n ∷ []) (zeros-is n) $ move ! (1 ∷ 0 ∷ []) $
-        use2 W (‵ (partAt (Array.Array u16 n) fullShare (replicate n 0) b 0)) (part-in 𝓤 H A W (Array.Array u16 n) refl fullShare (replicate n 0) b 0 (zeros-val n)) $
-        use1 W (‵ (arr-parts (shares u16) n .part fullShare (replicate n 0) b 0)) (array-apart 𝓤 H A W u16 fullShare tt n (replicate n 0) b 0) $ fsplit ! $ drop ! $
+        owned ! (Array.Array u16 n) (Is (Array.Array u16 n)) (array-makes 𝓤 H A W u16 (uint-makes 𝓤 H A W w16) n) (replicate n 0) (zeros-val n ∷ [])
+        (zeros-is n) $ move ! (1 ∷ 0 ∷ []) $
+        use2 W (‵ (partAt (Array.Array u16 n) fullShare (replicate n 0) b 0))
+        (part-in 𝓤 H A W (Array.Array u16 n) refl fullShare (replicate n 0) b 0 (zeros-val n)) $
+        use1 W (‵ (arr-parts (shares u16) n .part fullShare (replicate n 0) b 0)) (array-apart 𝓤 H A W u16 fullShare tt n (replicate n 0) b 0) $ fsplit ! $
+        drop ! $
         use1 W (‵ (cells (mem u16) (replicate n 0) b 0)) (whole-in 𝓤 H A W u16 (replicate n 0) b 0) $
-        use1 W (later (some (λ (γ : GName). ‵ (MutSlice ℓ κ u16 .own (on b (replicate n 0) γ) (sliceVal (b, 0) (length (replicate n 0)) ∷ [])) ⊛ ‵ (flent κ (Held u16 (length (replicate n 0)) b 0 γ)))))
+        use1 W (later (some (λ (γ : GName). ‵ (MutSlice ℓ κ u16 .own (on b (replicate n 0) γ) (sliceVal (b, 0) (length (replicate n 0)) ∷ [])) ⊛
+        ‵ (flent κ (Held u16 (length (replicate n 0)) b 0 γ)))))
         (lends-slice 𝓤 H A W u16 ℓ κ (replicate n 0) b 0 (subst (Room u16) (sym (length-replicate n 0)) room)) $ await ! tt $ pick ! (λ γ. split ! $
         rewrite ! 0 (λ (m : ℕ). ‵ (MutSlice ℓ κ u16 .own (on b (replicate n 0) γ) (sliceVal (b, 0) m ∷ []))) (length-replicate n 0) refl $
         rewrite ! 1 (λ (m : ℕ). ‵ (flent κ (Held u16 m b 0 γ))) (length-replicate n 0) refl $ at-once ! $
-        show ! (λ (γ′ : GName). sep 𝓤 (sem 𝓤 H A (MutSlice ℓ κ u16 .own (on b (replicate n 0) γ′) (sliceVal (b, 0) n ∷ []))) (A .lent κ (Held u16 n b 0 γ′))) γ $ done !)
+        show ! (λ (γ′ : GName). sep 𝓤 (sem 𝓤 H A (MutSlice ℓ κ u16 .own (on b (replicate n 0) γ′) (sliceVal (b, 0) n ∷ []))) (A .lent κ (Held u16 n b 0 γ′))) γ
+        $ done !)
 
-    pub lends-on : (ℓ : Lifetime) (κ κ′ : Lft) (γ : GName) (zs : List ℕ) → length zs ≡ n → ent 𝓤 (sep 𝓤 (A .dead κ) (sep 𝓤 (A .lent κ (Held u16 n b 0 γ)) (sem 𝓤 H A (finally u16 γ zs))))
+    pub lends-on : (ℓ : Lifetime) (κ κ′ : Lft) (γ : GName) (zs : List ℕ) → length zs ≡ n
+        → ent 𝓤 (sep 𝓤 (A .dead κ) (sep 𝓤 (A .lent κ (Held u16 n b 0 γ)) (sem 𝓤 H A (finally u16 γ zs))))
         (H .⇛ (ex 𝓤 (λ (γ′ : GName). sep 𝓤 (sem 𝓤 H A (ShrSlice ℓ κ′ u16 .own (on b zs γ′) (sliceVal (b, 0) n ∷ []))) (sem 𝓤 H A (Lends κ′ zs)))))
     lends-on ℓ κ κ′ γ zs e =
         qed W (‵ (fdead κ) ∷ ‵ (flent κ (Held u16 n b 0 γ)) ∷ ‵ (finally u16 γ zs) ∷ []) ∵ updating ! $
-        use3 W (later (‵ (Arr (mem u16) n .lies zs b 0))) (slice-back 𝓤 H A W u16 κ γ zs n b 0) $ await ! tt $ fsplit ! $ drop ! $ use1 W (‵ (row u16 fullShare zs b 0)) (whole-out 𝓤 H A W u16 zs b 0) $
+        use3 W (later (‵ (Arr (mem u16) n .lies zs b 0))) (slice-back 𝓤 H A W u16 κ γ zs n b 0) $ await ! tt $ fsplit ! $ drop ! $
+        use1 W (‵ (row u16 fullShare zs b 0)) (whole-out 𝓤 H A W u16 zs b 0) $
         feqI ! ℕ (length zs) (length zs) refl $ fjoin ! $
-        use1 W (later (some (λ (γ′ : GName). ‵ (ShrSlice ℓ κ′ u16 .own (on b zs γ′) (sliceVal (b, 0) (length zs) ∷ [])) ⊛ ‵ (flent κ′ (arr-parts (shares u16) (length zs) .part fullShare zs b 0)))))
+        use1 W (later (some (λ (γ′ : GName). ‵ (ShrSlice ℓ κ′ u16 .own (on b zs γ′) (sliceVal (b, 0) (length zs) ∷ [])) ⊛
+        ‵ (flent κ′ (arr-parts (shares u16) (length zs) .part fullShare zs b 0)))))
         (lends-shr-slice 𝓤 H A W u16 ℓ κ′ fullShare zs b 0 (subst (Room u16) (sym e) room)) $ await ! tt $ pick ! (λ γ′. split ! $
         rewrite ! 0 (λ (m : ℕ). ‵ (ShrSlice ℓ κ′ u16 .own (on b zs γ′) (sliceVal (b, 0) m ∷ []))) e refl $
         rewrite ! 1 (λ (m : ℕ). ‵ (flent κ′ (arr-parts (shares u16) m .part fullShare zs b 0))) e refl $ at-once ! $
@@ -91,5 +101,6 @@ module _ {M : Type 1} (𝓤 : URA M) (H : Heap 𝓤) (A : Atoms 𝓤) (W : Given
 
     pub ends : (κ : Lft) (zs : List ℕ) → ent 𝓤 (sep 𝓤 (A .dead κ) (sem 𝓤 H A (Lends κ zs))) (H .⇛ (H .room (array n) b 0))
     ends κ zs =
-        qed W (‵ (fdead κ) ∷ ‵ (Lends κ zs) ∷ []) ∵ updating ! $ lent-back ! tt $ use1 W (‵ (partAt (Array.Array u16 n) fullShare zs b 0)) (array-whole 𝓤 H A W u16 fullShare n zs b 0) $
+        qed W (‵ (fdead κ) ∷ ‵ (Lends κ zs) ∷ []) ∵ updating ! $ lent-back ! tt $
+        use1 W (‵ (partAt (Array.Array u16 n) fullShare zs b 0)) (array-whole 𝓤 H A W u16 fullShare n zs b 0) $
         use1 W (‵ (froom (array n) b 0)) (part-room 𝓤 H A W (Array.Array u16 n) zs b 0) $ at-once ! $ done !

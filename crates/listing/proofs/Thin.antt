@@ -307,7 +307,8 @@ module _ {M : Type 1} (𝓤 : URA M) (H : Heap 𝓤) (L : Laws 𝓤 H) where
   out [] σ i z = absurd z
   out (e ∷ E) σ zero z = assoc∗ 𝓤 (cell e (first σ)) (dies e) (frame E (rest σ))
   out (e ∷ E) σ (suc i) z =
-      via 𝓤 _ (monoR 𝓤 (cell e (first σ) ∗ dies e) (out E (rest σ) i z)) (swap∗ 𝓤 (cell e (first σ) ∗ dies e) (cell (nth E i) (at-cell (rest σ) i)) (others E (rest σ) i))
+      via 𝓤 _ (monoR 𝓤 (cell e (first σ) ∗ dies e) (out E (rest σ) i z))
+      (swap∗ 𝓤 (cell e (first σ) ∗ dies e) (cell (nth E i) (at-cell (rest σ) i)) (others E (rest σ) i))
 
   back : (E : Env) (σ : List Cell) (i : ℕ) (c : Cell) → Inside E i → cell (nth E i) c ∗ others E σ i ⊢ frame E (set-cell σ i c)
   back [] σ i c z = absurd z
@@ -319,10 +320,12 @@ module _ {M : Type 1} (𝓤 : URA M) (H : Heap 𝓤) (L : Laws 𝓤 H) where
   same [] σ i z = absurd z
   same (e ∷ E) σ zero z = assoc′ 𝓤 (cell e (first σ)) (dies e) (frame E (rest σ))
   same (e ∷ E) σ (suc i) z =
-      via 𝓤 _ (swap∗ 𝓤 (cell (nth E i) (at-cell (rest σ) i)) (cell e (first σ) ∗ dies e) (others E (rest σ) i)) (monoR 𝓤 (cell e (first σ) ∗ dies e) (same E (rest σ) i z))
+      via 𝓤 _ (swap∗ 𝓤 (cell (nth E i) (at-cell (rest σ) i)) (cell e (first σ) ∗ dies e) (others E (rest σ) i))
+      (monoR 𝓤 (cell e (first σ) ∗ dies e) (same E (rest σ) i z))
 
   -- a field's cell within a struct's
-  within : (τ : Ty) (b : ℕ) (v : Val) (k : ℕ) (τ′ : Ty) (d : ℕ) → T (hasTy τ v) → fieldOf τ k ≡ some (τ′, d) → Within 𝓤 H τ b zero v τ′ (zero + d) (getV (fieldsOf v) k)
+  within : (τ : Ty) (b : ℕ) (v : Val) (k : ℕ) (τ′ : Ty) (d : ℕ) → T (hasTy τ v) → fieldOf τ k ≡ some (τ′, d)
+      → Within 𝓤 H τ b zero v τ′ (zero + d) (getV (fieldsOf v) k)
   within (tyInt w) b v k τ′ d t e = absurd (subst is-none e tt)
   within tyBool b v k τ′ d t e = absurd (subst is-none e tt)
   within (tyFloat f) b v k τ′ d t e = absurd (subst is-none e tt)
@@ -341,7 +344,8 @@ module _ {M : Type 1} (𝓤 : URA M) (H : Heap 𝓤) (L : Laws 𝓤 H) where
     around = all 𝓤 Field;
     taken = L .at-field fullShare ν τs k τ′ d e b zero vs;
     given-back = subst (λ (us : Vals). Part (getV vs k) ∗ all 𝓤 Field ⊢ Whole us) (setV-getV vs k)
-        (via 𝓤 (Part (getV vs k) ∗ Field (getV vs k)) (monoR 𝓤 (Part (getV vs k)) (allE 𝓤 Field (getV vs k))) (apply∗ 𝓤 (Part (getV vs k)) (Whole (setV vs k (getV vs k)))));
+        (via 𝓤 (Part (getV vs k) ∗ Field (getV vs k)) (monoR 𝓤 (Part (getV vs k)) (allE 𝓤 Field (getV vs k)))
+        (apply∗ 𝓤 (Part (getV vs k)) (Whole (setV vs k (getV vs k)))));
   }
     where
       Part : Val → SProp 𝓤
@@ -379,7 +383,8 @@ module _ {M : Type 1} (𝓤 : URA M) (H : Heap 𝓤) (L : Laws 𝓤 H) where
 
     -- ---- how what is left is used, beside P
     module _ (P R : SProp 𝓤) where
-      local-use : (E : Env) (σ : List Cell) (i : ℕ) (K : Ty → ℕ → Cell → Rest) → (Inside E i → ⟦ K (nth E i .0) (nth E i .1) (at-cell σ i) ⟧ ∗ P ⊢ R) → ⟦ local-at E σ i K ⟧ ∗ P ⊢ R
+      local-use : (E : Env) (σ : List Cell) (i : ℕ) (K : Ty → ℕ → Cell → Rest) → (Inside E i → ⟦ K (nth E i .0) (nth E i .1) (at-cell σ i) ⟧ ∗ P ⊢ R)
+          → ⟦ local-at E σ i K ⟧ ∗ P ⊢ R
       local-use [] σ i K h = never∗ 𝓤 P R
       local-use (e ∷ E) σ zero K h = h tt
       local-use (e ∷ E) σ (suc i) K h = local-use E (rest σ) i K h
@@ -450,7 +455,8 @@ module _ {M : Type 1} (𝓤 : URA M) (H : Heap 𝓤) (L : Laws 𝓤 H) where
         room-in (holds v) m = L .at-room (e .0) (e .1) zero v
         room-in lent m = absurd m
 
-        write-use : (v : Val) (X Y : SProp 𝓤) → Mine (at-cell σ i) → Fits-in (e .0) v → X ∗ frame E (set-cell σ i (holds v)) ⊢ Y → X ∗ F ⊢ write 𝓤 H (e .0) (e .1) zero v Y
+        write-use : (v : Val) (X Y : SProp 𝓤) → Mine (at-cell σ i) → Fits-in (e .0) v → X ∗ frame E (set-cell σ i (holds v)) ⊢ Y
+            → X ∗ F ⊢ write 𝓤 H (e .0) (e .1) zero v Y
         write-use v X Y m t h =
             via 𝓤 (room e ∗ wand 𝓤 (at e v) Y)
             (via 𝓤 (cell e (at-cell σ i) ∗ X ∗ O) (via 𝓤 (X ∗ cell e (at-cell σ i) ∗ O) (monoR 𝓤 X (out E σ i z)) (swap∗ 𝓤 X (cell e (at-cell σ i)) O))
@@ -481,8 +487,10 @@ module _ {M : Type 1} (𝓤 : URA M) (H : Heap 𝓤) (L : Laws 𝓤 H) where
             typed-use ⟦ K u ⟧ F (nth E i .0) (nth E i .1) zero v (O i z) (taken-out i z v q) _ (λ t.
             let w : Within 𝓤 H (nth E i .0) (nth E i .1) zero v (g .0) (zero + g .1) u = within (nth E i .0) (nth E i .1) v k (g .0) (g .1) (t .0) f in
             read-use ⟦ K u ⟧ F (g .0) (nth E i .1) (zero + g .1) u (w .around ∗ O i z)
-            (via 𝓤 (at (nth E i) v ∗ O i z) (taken-out i z v q) (via 𝓤 ((Cu ∗ w .around) ∗ O i z) (monoL 𝓤 (O i z) (w .taken)) (assoc∗ 𝓤 Cu (w .around) (O i z))))
-            (via 𝓤 ((Cu ∗ w .around) ∗ O i z) (assoc′ 𝓤 Cu (w .around) (O i z)) (via 𝓤 (at (nth E i) v ∗ O i z) (monoL 𝓤 (O i z) (w .given-back)) (put-back i z v q)))
+            (via 𝓤 (at (nth E i) v ∗ O i z) (taken-out i z v q)
+            (via 𝓤 ((Cu ∗ w .around) ∗ O i z) (monoL 𝓤 (O i z) (w .taken)) (assoc∗ 𝓤 Cu (w .around) (O i z))))
+            (via 𝓤 ((Cu ∗ w .around) ∗ O i z) (assoc′ 𝓤 Cu (w .around) (O i z))
+            (via 𝓤 (at (nth E i) v ∗ O i z) (monoL 𝓤 (O i z) (w .given-back)) (put-back i z v q)))
             R (h u (wt-field v k (t .1))))
 
         place-use : (i : ℕ) (st : List Step) → ⟦ of-place E σ i st K ⟧ ∗ F ⊢ walk 𝓤 H E (spotOf 𝓤 H E i) st (λ sp. read 𝓤 H (sp .0) (sp .1) (sp .2) R)
@@ -499,16 +507,19 @@ module _ {M : Type 1} (𝓤 : URA M) (H : Heap 𝓤) (L : Laws 𝓤 H) where
 
         opd-use : (x : Opd) → ⟦ of-opd E σ x K ⟧ ∗ F ⊢ evalOpd 𝓤 H E x R
         opd-use (copy (place i st)) = place-use i st
-        opd-use (int w n) = if-use F _ (ltb n (2 ^ bits w)) (K (vint w n)) (λ l. via 𝓤 (R (vint w n)) (h (vint w n) (fits w n l)) (guardI 𝓤 (T (ltb n (2 ^ bits w))) (R (vint w n)) l))
+        opd-use (int w n) = if-use F _ (ltb n (2 ^ bits w)) (K (vint w n))
+            (λ l. via 𝓤 (R (vint w n)) (h (vint w n) (fits w n l)) (guardI 𝓤 (T (ltb n (2 ^ bits w))) (R (vint w n)) l))
         opd-use (intNeg w n) = never∗ 𝓤 F _
-        opd-use (intBig w n) = if-use F _ (ltb n (2 ^ bits w)) (K (vint w n)) (λ l. via 𝓤 (R (vint w n)) (h (vint w n) (fits w n l)) (guardI 𝓤 (Fits w n) (R (vint w n)) (fits w n l)))
+        opd-use (intBig w n) = if-use F _ (ltb n (2 ^ bits w)) (K (vint w n))
+            (λ l. via 𝓤 (R (vint w n)) (h (vint w n) (fits w n l)) (guardI 𝓤 (Fits w n) (R (vint w n)) (fits w n l)))
         opd-use (float f n) = never∗ 𝓤 F _
         opd-use opdTrue = h (vbool true) tt
         opd-use opdFalse = h (vbool false) tt
         opd-use opdUnit = h vunit tt
         opd-use (ptrConst n) = never∗ 𝓤 F _
 
-      opds-use : (xs : List Opd) (K : List Val → Rest) (R : List Val → SProp 𝓤) → ((vs : List Val) → WTs (ofList vs) → ⟦ K vs ⟧ ∗ F ⊢ R vs) → ⟦ of-opds E σ xs K ⟧ ∗ F ⊢ evalOpds 𝓤 H E xs R
+      opds-use : (xs : List Opd) (K : List Val → Rest) (R : List Val → SProp 𝓤) → ((vs : List Val) → WTs (ofList vs) → ⟦ K vs ⟧ ∗ F ⊢ R vs)
+          → ⟦ of-opds E σ xs K ⟧ ∗ F ⊢ evalOpds 𝓤 H E xs R
       opds-use [] K R h = h [] tt
       opds-use (x ∷ xs) K R h = opd-use (λ v. of-opds E σ xs (λ vs. K (v ∷ vs))) (λ v. evalOpds 𝓤 H E xs (λ vs. R (v ∷ vs)))
           (λ v w. opds-use xs (λ vs. K (v ∷ vs)) (λ vs. R (v ∷ vs)) (λ vs ws. h (v ∷ vs) (w, ws))) x
@@ -550,7 +561,8 @@ module _ {M : Type 1} (𝓤 : URA M) (H : Heap 𝓤) (L : Laws 𝓤 H) where
       runs-on (cond c a b) σ N R Y hn hr =
           via 𝓤 _ (opd-use E σ _ (λ v. asBool (never 𝓤) v (λ t. branch 𝓤 H t (Wp 𝓤 H C Λ E a Y) (Wp 𝓤 H C Λ E b Y))) (λ v w.
           bool-use (frame E σ) v _ (λ u. asBool (never 𝓤) u (λ t. branch 𝓤 H t (Wp 𝓤 H C Λ E a Y) (Wp 𝓤 H C Λ E b Y))) (λ t.
-          branch-fm 𝓤 H L t ⟦ left E a σ N R ⟧ (Wp 𝓤 H C Λ E a Y) ⟦ left E b σ N R ⟧ (Wp 𝓤 H C Λ E b Y) (frame E σ) (runs-on a σ N R Y hn hr) (runs-on b σ N R Y hn hr))) c)
+          branch-fm 𝓤 H L t ⟦ left E a σ N R ⟧ (Wp 𝓤 H C Λ E a Y) ⟦ left E b σ N R ⟧ (Wp 𝓤 H C Λ E b Y) (frame E σ) (runs-on a σ N R Y hn hr)
+          (runs-on b σ N R Y hn hr))) c)
           (L .⇛-intro _)
       runs-on (switch c arms) σ N R Y hn hr = never∗ 𝓤 (frame E σ) _
       runs-on (exit n) σ N R Y hn hr = never∗ 𝓤 (frame E σ) _
@@ -576,7 +588,8 @@ module _ {M : Type 1} (𝓤 : URA M) (H : Heap 𝓤) (L : Laws 𝓤 H) where
     free-cell (holds v) = free-one (at e v) (L .at-room (e .0) (e .1) zero v)
     free-cell lent =
         via 𝓤 (Y ∗ (room e ∗ dies e) ∗ G)
-        (via 𝓤 (room e ∗ Y ∗ dies e ∗ G) (via 𝓤 ((room e ∗ Y) ∗ dies e ∗ G) (monoR 𝓤 (room e ∗ Y) (monoL 𝓤 G (snd∗ 𝓤 (emp 𝓤) (dies e)))) (assoc∗ 𝓤 (room e) Y (dies e ∗ G)))
+        (via 𝓤 (room e ∗ Y ∗ dies e ∗ G) (via 𝓤 ((room e ∗ Y) ∗ dies e ∗ G) (monoR 𝓤 (room e ∗ Y) (monoL 𝓤 G (snd∗ 𝓤 (emp 𝓤) (dies e))))
+        (assoc∗ 𝓤 (room e) Y (dies e ∗ G)))
         (via 𝓤 (Y ∗ room e ∗ dies e ∗ G) (swap∗ 𝓤 (room e) Y (dies e ∗ G)) (monoR 𝓤 Y (assoc′ 𝓤 (room e) (dies e) G))))
         (free-one (room e) (id⊢ 𝓤 (room e)))
 
@@ -586,10 +599,12 @@ module _ {M : Type 1} (𝓤 : URA M) (H : Heap 𝓤) (L : Laws 𝓤 H) where
 
   allocated : (ls : List Local) (K : Env → SProp 𝓤) (P : SProp 𝓤) → ((bs : Blocks ls) → P ∗ frame (envOf ls bs) [] ⊢ K (envOf ls bs)) → P ⊢ alloc 𝓤 H ls K
   allocated [] K P h = via 𝓤 (P ∗ emp 𝓤) (∗emp 𝓤 P) (h tt)
-  allocated (local τ m ∷ ls) K P h = allI 𝓤 _ (λ b. wandI 𝓤 P (room (τ, b) ∗ dies (τ, b)) _ (allocated ls (λ E. K ((τ, b) ∷ E)) (P ∗ room (τ, b) ∗ dies (τ, b)) (λ bs.
+  allocated (local τ m ∷ ls) K P h = allI 𝓤 _
+      (λ b. wandI 𝓤 P (room (τ, b) ∗ dies (τ, b)) _ (allocated ls (λ E. K ((τ, b) ∷ E)) (P ∗ room (τ, b) ∗ dies (τ, b)) (λ bs.
       via 𝓤 _ (assoc∗ 𝓤 P (room (τ, b) ∗ dies (τ, b)) (frame (envOf ls bs) [])) (h (b, bs)))))
 
-  stored : (ls : List Local) (bs : Blocks ls) (vs : List Val) (X P : SProp 𝓤) → Stored ls vs → P ∗ frame (envOf ls bs) (held vs) ⊢ X → P ∗ frame (envOf ls bs) [] ⊢ pass 𝓤 H (envOf ls bs) vs X
+  stored : (ls : List Local) (bs : Blocks ls) (vs : List Val) (X P : SProp 𝓤) → Stored ls vs → P ∗ frame (envOf ls bs) (held vs) ⊢ X
+      → P ∗ frame (envOf ls bs) [] ⊢ pass 𝓤 H (envOf ls bs) vs X
   stored ls bs [] X P t h = h
   stored [] bs (v ∷ vs) X P t h = absurd t
   stored (local τ m ∷ ls) bs (v ∷ vs) X P t h =
@@ -601,13 +616,16 @@ module _ {M : Type 1} (𝓤 : URA M) (H : Heap 𝓤) (L : Laws 𝓤 H) where
       (via 𝓤 (room e ∗ dies e ∗ P ∗ G) (via 𝓤 ((room e ∗ dies e) ∗ P ∗ G) (swap∗ 𝓤 P (room e ∗ dies e) G) (assoc∗ 𝓤 (room e) (dies e) (P ∗ G)))
       (monoR 𝓤 (room e) (wandI 𝓤 (dies e ∗ P ∗ G) (at e v) Z
       (via 𝓤 (((at e v ∗ dies e) ∗ P) ∗ G)
-      (via 𝓤 (at e v ∗ dies e ∗ P ∗ G) (comm∗ 𝓤 (dies e ∗ P ∗ G) (at e v)) (via 𝓤 ((at e v ∗ dies e) ∗ P ∗ G) (assoc′ 𝓤 (at e v) (dies e) (P ∗ G)) (assoc′ 𝓤 (at e v ∗ dies e) P G)))
+      (via 𝓤 (at e v ∗ dies e ∗ P ∗ G) (comm∗ 𝓤 (dies e ∗ P ∗ G) (at e v))
+      (via 𝓤 ((at e v ∗ dies e) ∗ P ∗ G) (assoc′ 𝓤 (at e v) (dies e) (P ∗ G)) (assoc′ 𝓤 (at e v ∗ dies e) P G)))
       (stored ls (bs .1) vs X ((at e v ∗ dies e) ∗ P) (t .1)
-      (via 𝓤 (P ∗ (at e v ∗ dies e) ∗ G′) (via 𝓤 ((P ∗ at e v ∗ dies e) ∗ G′) (monoL 𝓤 G′ (comm∗ 𝓤 (at e v ∗ dies e) P)) (assoc∗ 𝓤 P (at e v ∗ dies e) G′)) h))))))
+      (via 𝓤 (P ∗ (at e v ∗ dies e) ∗ G′) (via 𝓤 ((P ∗ at e v ∗ dies e) ∗ G′) (monoL 𝓤 G′ (comm∗ 𝓤 (at e v ∗ dies e) P)) (assoc∗ 𝓤 P (at e v ∗ dies e) G′))
+      h))))))
       (guardI 𝓤 (Fits-in τ v) (room e ∗ wand 𝓤 (at e v) Z) (t .0))
 
   module _ (C : Calls 𝓤 H) (Λ : Loops 𝓤 H) (fm : FmC 𝓤 H L C) (vs : List Val) (Q : Val → SProp 𝓤) (P : SProp 𝓤) where
-    returned : (e : Ty × ℕ) (E : Env) (σ : List Cell) → mean 𝓤 H C Q (value (first σ) (λ v. ends (lents (e ∷ E) σ) v)) ∗ frame (e ∷ E) σ ⊢ H .⇛ (read 𝓤 H (e .0) (e .1) zero (λ r. release 𝓤 H (e ∷ E) (Q r)))
+    returned : (e : Ty × ℕ) (E : Env) (σ : List Cell) → mean 𝓤 H C Q (value (first σ) (λ v. ends (lents (e ∷ E) σ) v)) ∗ frame (e ∷ E) σ ⊢ H .⇛
+        (read 𝓤 H (e .0) (e .1) zero (λ r. release 𝓤 H (e ∷ E) (Q r)))
     returned e E σ = value-use C Q (frame (e ∷ E) σ) _ (first σ) _ (λ v q. ⇛-fm 𝓤 H L _ _ (frame (e ∷ E) σ)
         (read-use (rooms 𝓤 H C (lents (e ∷ E) σ) (Q v)) (frame (e ∷ E) σ) (e .0) (e .1) zero v (others (e ∷ E) σ zero)
         (taken-out C Q (e ∷ E) σ zero tt v q) (put-back C Q (e ∷ E) σ zero tt v q) (λ r. release 𝓤 H (e ∷ E) (Q r)) (freed C (e ∷ E) σ (Q v))))
@@ -625,6 +643,7 @@ module _ {M : Type 1} (𝓤 : URA M) (H : Heap 𝓤) (L : Laws 𝓤 H) where
         (runs-on C Q Λ fm E b (empty ∷ held vs) _ _ (atReturn 𝓤 H E Q) (λ σ. never∗ 𝓤 (frame E σ) _) (returned e (envOf ls (bs .1)))))))
 
     -- what is left of the body, whatever blocks the locals lie in
-    pub thin : (f : Fn) → Takes (f .locals) vs → ((bs : Blocks (f .locals)) → P ⊢ mean 𝓤 H C Q (left-of (envOf (f .locals) bs) (f .body) vs)) → P ⊢ WpFn 𝓤 H C Λ f vs Q
+    pub thin : (f : Fn) → Takes (f .locals) vs → ((bs : Blocks (f .locals)) → P ⊢ mean 𝓤 H C Q (left-of (envOf (f .locals) bs) (f .body) vs))
+        → P ⊢ WpFn 𝓤 H C Λ f vs Q
     unfolding WpFn
     thin f t h = allocated (f .locals) _ P (λ bs. body (f .body) (f .locals) bs t (h bs))

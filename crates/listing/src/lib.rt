@@ -1,10 +1,23 @@
 // The listing call: it writes the records of an answer to the lent slice.
 ghost use mathlib.Core.Path.{_≡_};
-ghost use Prim.Native.Nat.{_≤_};
+ghost use Prim.Native.Nat.{_*_, _≤_};
 ghost use lib.ListN.{length};
 ghost use Rattle.layout.specs.Listing.{listing, after};
+ghost use Rattle.listing.specs.Overwrite.{overwrite};
 use layout::Answer;
 use layout::Span;
+
+// The first n spans of a slice of numbers go to the lent slice; what it has past them stays.
+fn write_rows(recs: &mut [Span], out: &[u16], n: usize)
+    requires { ⌜ (n ≤ 2048) × (15 * n ≤ length (now out)) × (n ≤ length (now recs)) ⌝ }
+    ensures { λ _. ⌜ now (recs .exit) ≡ overwrite (now (out .entry)) n (now (recs .entry)) ⌝ }
+{
+    let mut i = 0;
+    while i < n {
+        recs[i] = rows::span_at(out, i);
+        i += 1;
+    }
+}
 
 // The listing of a short message: 15 numbers for each of its bytes are enough.
 fn list_short(file: &[u8], message: &[u8], answer: usize, recs: &mut [Span]) -> Answer
@@ -14,7 +27,7 @@ fn list_short(file: &[u8], message: &[u8], answer: usize, recs: &mut [Span]) -> 
     let mut out = [0u16; 3840];
     let n = recs.len();
     let a = answer::counted(file, message, answer, n, &mut out);
-    write::write_rows(recs, &out, a.count);
+    write_rows(recs, &out, a.count);
     a.answer
 }
 
@@ -25,7 +38,7 @@ fn list_long(file: &[u8], message: &[u8], answer: usize, recs: &mut [Span]) -> A
     let mut out = [0u16; 30720];
     let n = recs.len();
     let a = answer::counted(file, message, answer, n, &mut out);
-    write::write_rows(recs, &out, a.count);
+    write_rows(recs, &out, a.count);
     a.answer
 }
 

@@ -1,5 +1,7 @@
--- `write::write_rows` meets its contract: a walk of its MIR, by hand, with a loop and a call in each turn. The borrow of the records is opened once, before the loop, and closed once, after it.
--- Between the two the slice's elements are the function's own (`overwrite i`), and each turn hands `span_at` a copy of the shared slice of numbers and the share of its lifetime's token, which come back.
+-- `write_rows` meets its contract: a walk of its MIR, by hand, with a loop and a call in each turn. The borrow of the records is opened once, before the loop,
+-- and closed once, after it.
+-- Between the two the slice's elements are the function's own (`overwrite i`), and each turn hands `span_at` a copy of the shared slice of numbers and the
+-- share of its lifetime's token, which come back.
 use mathlib.Core.Path.{_≡_, refl, sym, ap, subst}
 use Prim.Native.Nat.{ℕ, zero, suc, _<_, _≤_, _*_, _+_, _-_, _^_}
 use native.Mathlib.Nat.{lt-irrefl}
@@ -56,14 +58,14 @@ use Rattle.rows.proofs.span_at as span
 use Rattle.rows.proofs.span_at.Symbol as span-def
 use Rattle.rows.proofs.span_at.Symbol.{name as #rows·span-at}
 use Rattle.rows.proofs.span_at.Met as span-thm
-use Rattle.write.specs.Overwrite.{overwrite}
-use Rattle.write.proofs.Locals.{alloc-all}
-use Rattle.write.proofs.Over.{over-none, over-length, over-one}
-use Rattle.write.proofs.write_rows.Key.{name as #write·write-rows}
-use Rattle.write.proofs.write_rows as f
-use Rattle.write.proofs.write_rows.Statement as stated
-use Rattle.write.proofs.write_rows.Code as code
-use Rattle.write.proofs.write_rows.Code.Mir as body
+use Rattle.listing.specs.Overwrite.{overwrite}
+use Rattle.listing.proofs.Locals.{alloc-all}
+use Rattle.listing.proofs.Over.{over-none, over-length, over-one}
+use Rattle.listing.proofs.write_rows.Key.{name as #listing·write-rows}
+use Rattle.listing.proofs.write_rows as f
+use Rattle.listing.proofs.write_rows.Statement as stated
+use Rattle.listing.proofs.write_rows.Code as code
+use Rattle.listing.proofs.write_rows.Code.Mir as body
 
 abbrev stayed : Stays (f.ended .signature .params) (f.ended .kept)
 stayed = (stay-slice (0 ∷ []) tt (plain (λ _. T.the-row)), (stay-none-slice (1 ∷ []) tt (plain (λ _. u16)) yes, (stay-none (λ _. usize) yes, tt)))
@@ -95,7 +97,8 @@ module _ {M : Type 1} (𝓤 : URA M) (H : Heap 𝓤) (A : Atoms 𝓤) (at-mem : 
   abbrev SpanAt : Contract 𝓤
   SpanAt = tripleOf 𝓤 H A span.signature (span.spec 𝓤 H A at-mem run)
 
-module _ {M : Type 1} (𝓤 : URA M) (H : Heap 𝓤) (A : Atoms 𝓤) (W : Given 𝓤 H A) (at-mem : Memory → SProp 𝓤) (run : Routine → Fun 𝓤) (κ₀ κ₁ : Lft) (q₀ q₁ : Share) (b o : ℕ) (γ : GName) (ys : List Span) (out : RefT (List ℕ)) (n : ℕ)
+module _ {M : Type 1} (𝓤 : URA M) (H : Heap 𝓤) (A : Atoms 𝓤) (W : Given 𝓤 H A) (at-mem : Memory → SProp 𝓤) (run : Routine → Fun 𝓤) (κ₀ κ₁ : Lft)
+    (q₀ q₁ : Share) (b o : ℕ) (γ : GName) (ys : List Span) (out : RefT (List ℕ)) (n : ℕ)
     (n-fits : n < 2 ^ 64) (few : n ≤ 2048) (inside : 15 * n ≤ length (now out)) (fit : n ≤ length ys) where
   abbrev over : ℕ → List Span
   over i = overwrite (now out) i ys
@@ -140,17 +143,23 @@ module _ {M : Type 1} (𝓤 : URA M) (H : Heap 𝓤) (A : Atoms 𝓤) (W : Given
   said i r = exE 𝓤 _ (λ ws. snd∗ 𝓤 (sem 𝓤 H A (lasts span.ended (κ₁, tt) (out, (i, tt)) ws)) (fact 𝓤 (r ≡ spanAt (now out) i)))
 
   exits : Room T.the-row (length ys)
-      → ent 𝓤 (⋆ 𝓤 H A (‵ (fobs γ (codedHoleys T.the-row .code (heres T.the-row (over n)))) ∷ ‵ (fbor κ₀ (Held T.the-row (length (over n)) b o γ)) ∷ ‵ (flft κ₀ q₀) ∷ ‵ (flft κ₁ q₁) ∷ ‵ OwnO ∷ [])) (Post vunit)
+      → ent 𝓤 (⋆ 𝓤 H A (‵ (fobs γ (codedHoleys T.the-row .code (heres T.the-row (over n)))) ∷ ‵ (fbor κ₀ (Held T.the-row (length (over n)) b o γ)) ∷
+      ‵ (flft κ₀ q₀) ∷ ‵ (flft κ₁ q₁) ∷ ‵ OwnO ∷ [])) (Post vunit)
   exits room =
-      qed W (‵ (fobs γ (codedHoleys T.the-row .code (heres T.the-row (over n)))) ∷ ‵ (fbor κ₀ (Held T.the-row (length (over n)) b o γ)) ∷ ‵ (flft κ₀ q₀) ∷ ‵ (flft κ₁ q₁) ∷ ‵ OwnO ∷ []) ∵
-      suffices ! _ (ends-at 𝓤 H A f.ended stayed (f.clauses 𝓤 H A at-mem run) W (((κ₀, (κ₁, tt)), (q₀, (q₁, tt)), tt, a, at), tt) vunit tt (over n, (tt, (tt, tt))) (as-long n (omega arith), (tt, (tt, tt)))) $ says ! refl $
+      qed W (‵ (fobs γ (codedHoleys T.the-row .code (heres T.the-row (over n)))) ∷ ‵ (fbor κ₀ (Held T.the-row (length (over n)) b o γ)) ∷ ‵ (flft κ₀ q₀) ∷
+      ‵ (flft κ₁ q₁) ∷ ‵ OwnO ∷ []) ∵
+      suffices ! _ (ends-at 𝓤 H A f.ended stayed (f.clauses 𝓤 H A at-mem run) W (((κ₀, (κ₁, tt)), (q₀, (q₁, tt)), tt, a, at), tt) vunit tt
+      (over n, (tt, (tt, tt))) (as-long n (omega arith), (tt, (tt, tt)))) $ says ! refl $
       nothing ! $ move ! (4 ∷ 0 ∷ []) $ join ! $ move ! (3 ∷ 0 ∷ []) $ join ! $ frame ! $
       -- [obs; the borrow; out]
-      fjoin ! $ pureI ! (at-slice T.the-row (R (over n)) (s ∷ [])) (tt, (tt, tt)) (ap (λ (m : ℕ). sliceVal (b, o) m ∷ []) (sym (as-long n (omega arith))), subst (Room T.the-row) (sym (as-long n (omega arith))) room) $ fjoin ! $
-      nothing ! $ owned ! usize (Is usize) (uint-makes 𝓤 H A W w64) n _ (refl, n-fits) $ fjoin ! $ move ! (2 ∷ 0 ∷ []) $ fjoin ! $ move ! (1 ∷ 0 ∷ []) $ fjoin ! $
+      fjoin ! $ pureI ! (at-slice T.the-row (R (over n)) (s ∷ [])) (tt, (tt, tt))
+      (ap (λ (m : ℕ). sliceVal (b, o) m ∷ []) (sym (as-long n (omega arith))), subst (Room T.the-row) (sym (as-long n (omega arith))) room) $ fjoin ! $
+      nothing ! $ owned ! usize (Is usize) (uint-makes 𝓤 H A W w64) n _ (refl, n-fits) $ fjoin ! $ move ! (2 ∷ 0 ∷ []) $ fjoin ! $ move ! (1 ∷ 0 ∷ []) $
+      fjoin ! $
       feqI ! (List Val) (vunit ∷ []) (vunit ∷ []) refl $ move ! (1 ∷ 0 ∷ []) $ done !
 
-  module _ (𝓣 : Tables 𝓤 H) (known : Triple 𝓤 (𝓣 .C #rows·span-at) (SpanAt 𝓤 H A at-mem run)) (room : Room T.the-row (length ys)) (l₀ l₁ l₂ l₃ l₄ l₅ l₆ l₇ l₈ : ℕ) where
+  module _ (𝓣 : Tables 𝓤 H) (known : Triple 𝓤 (𝓣 .C #rows·span-at) (SpanAt 𝓤 H A at-mem run)) (room : Room T.the-row (length ys))
+      (l₀ l₁ l₂ l₃ l₄ l₅ l₆ l₇ l₈ : ℕ) where
     abbrev C : Calls 𝓤 H
     C = 𝓣 .C
 
@@ -160,15 +169,20 @@ module _ {M : Type 1} (𝓤 : URA M) (H : Heap 𝓤) (A : Atoms 𝓤) (W : Given
     abbrev En : Env 𝓤 H
     En = (tyUnit, l₀) ∷ (slice, l₁) ∷ (numbers, l₂) ∷ (word, l₃) ∷ (word, l₄) ∷ (tyBool, l₅) ∷ (T′.mir, l₆) ∷ (word, l₇) ∷ (tyPtr, l₈) ∷ []
 
-    -- from position 6 on: out's token and what it owns, recs, out, n, room for the result, the open borrow with both halves of its ghost variable, and that each local dies
+    -- from position 6 on: out's token and what it owns, recs, out, n, room for the result, the open borrow with both halves of its ghost variable, and that
+    -- each local dies
     abbrev Frame : List (Item 𝓤)
-    Frame = ‵ (flft κ₁ q₁) ∷ ‵ OwnO ∷ ‵ (fat fullShare slice l₁ 0 s) ∷ ‵ (fat fullShare numbers l₂ 0 ov) ∷ ‵ (fat fullShare word l₃ 0 (vint w64 n)) ∷ ‵ (froom tyUnit l₀ 0)
-        ∷ ‵ (fobor κ₀ q₀ (Held T.the-row (length ys) b o γ)) ∷ ‵ (fobs γ (codedHoleys T.the-row .code (heres T.the-row ys))) ∷ ‵ (fauth γ (codedHoleys T.the-row .code (heres T.the-row ys)))
-        ∷ ‵ (fdies tyUnit l₀) ∷ ‵ (fdies slice l₁) ∷ ‵ (fdies numbers l₂) ∷ ‵ (fdies word l₃) ∷ ‵ (fdies word l₄) ∷ ‵ (fdies tyBool l₅) ∷ ‵ (fdies T′.mir l₆) ∷ ‵ (fdies word l₇) ∷ ‵ (fdies tyPtr l₈) ∷ []
+    Frame = ‵ (flft κ₁ q₁) ∷ ‵ OwnO ∷ ‵ (fat fullShare slice l₁ 0 s) ∷ ‵ (fat fullShare numbers l₂ 0 ov) ∷ ‵ (fat fullShare word l₃ 0 (vint w64 n)) ∷
+        ‵ (froom tyUnit l₀ 0)
+        ∷ ‵ (fobor κ₀ q₀ (Held T.the-row (length ys) b o γ)) ∷ ‵ (fobs γ (codedHoleys T.the-row .code (heres T.the-row ys))) ∷
+        ‵ (fauth γ (codedHoleys T.the-row .code (heres T.the-row ys)))
+        ∷ ‵ (fdies tyUnit l₀) ∷ ‵ (fdies slice l₁) ∷ ‵ (fdies numbers l₂) ∷ ‵ (fdies word l₃) ∷ ‵ (fdies word l₄) ∷ ‵ (fdies tyBool l₅) ∷ ‵ (fdies T′.mir l₆) ∷
+        ‵ (fdies word l₇) ∷ ‵ (fdies tyPtr l₈) ∷ []
 
     -- i records are written
     abbrev At : ℕ → List (Item 𝓤)
-    At i = ‵ (row T.the-row fullShare (over i) b o) ∷ ‵ (fat fullShare word l₄ 0 (vint w64 i)) ∷ ‵ (froom tyBool l₅ 0) ∷ ‵ (froom T′.mir l₆ 0) ∷ ‵ (froom word l₇ 0) ∷ ‵ (froom tyPtr l₈ 0) ∷ Frame
+    At i = ‵ (row T.the-row fullShare (over i) b o) ∷ ‵ (fat fullShare word l₄ 0 (vint w64 i)) ∷ ‵ (froom tyBool l₅ 0) ∷ ‵ (froom T′.mir l₆ 0) ∷
+        ‵ (froom word l₇ 0) ∷ ‵ (froom tyPtr l₈ 0) ∷ Frame
 
     -- the invariant, where t records are left
     abbrev Facts : ℕ → ℕ → Type 0
@@ -195,21 +209,29 @@ module _ {M : Type 1} (𝓤 : URA M) (H : Heap 𝓤) (A : Atoms 𝓤) (W : Given
         -- `span_at`: a copy of the shared slice goes with its token, and the token comes back
         move ! (7 ∷ []) $ use1 W (‵ OwnO ⊛ ‵ OwnO) (shr-slice-copy 𝓤 H A W (named 1) κ₁ u16 .twice out (ov ∷ [])) $ split ! $ move ! (0 ∷ 8 ∷ []) $
         use2 W (raw (SpanAt 𝓤 H A at-mem run .pre (to-span i))) (goes-span i small) $
-        calls-at ! (fmOf 𝓤 H (W .laws) 𝓣) (SpanAt 𝓤 H A at-mem run) known (to-span i) (and-then ! (load ! (from ! (stop !)) (look ! 9 refl)) (and-then ! (load ! (from ! (stop !)) (look ! 3 refl)) (no-more !))) (λ u.
-        use1 W (later (some (λ (r : Span). ((‵ (flft κ₁ q₁) ⊛ ‵ ftrue) ⊛ ‵ (T.the-row .own r (u ∷ []))) ⊛ raw (ensured 𝓤 H A span.ended (span.clauses 𝓤 H A at-mem run) (κ₁, tt) (out, (i, tt)) tt r)))) (id⊢ 𝓤 _) $ await ! tt $ pick ! (λ r.
+        calls-at ! (fmOf 𝓤 H (W .laws) 𝓣) (SpanAt 𝓤 H A at-mem run) known (to-span i)
+        (and-then ! (load ! (from ! (stop !)) (look ! 9 refl)) (and-then ! (load ! (from ! (stop !)) (look ! 3 refl)) (no-more !))) (λ u.
+        use1 W (later (some (λ (r : Span). ((‵ (flft κ₁ q₁) ⊛ ‵ ftrue) ⊛ ‵ (T.the-row .own r (u ∷ []))) ⊛ raw
+        (ensured 𝓤 H A span.ended (span.clauses 𝓤 H A at-mem run) (κ₁, tt) (out, (i, tt)) tt r)))) (id⊢ 𝓤 _) $ await ! tt $ pick ! (λ r.
         split ! $ move ! (1 ∷ []) $ use1 W (raw (fact 𝓤 (r ≡ spanAt (now out) i))) (said i r) $ heard ! (r ≡ spanAt (now out) i) (λ e. split ! $
-        rewrite ! 1 (λ (z : Span). ‵ (T.the-row .own z (u ∷ []))) e refl $ move ! (1 ∷ []) $ peeks ! T.the-row (Is T.the-row) (shows 𝓤 H A T.the-row) v (u ∷ []) (λ is. drop ! $
+        rewrite ! 1 (λ (z : Span). ‵ (T.the-row .own z (u ∷ []))) e refl $ move ! (1 ∷ []) $
+        peeks ! T.the-row (Is T.the-row) (shows 𝓤 H A T.the-row) v (u ∷ []) (λ is. drop ! $
         land ! (from ! (stop !)) (init ! 5 refl (LL.lawful T.the-type T′.the-laws 𝓤 H A W .typed v _ is .0)) $
         rewrite ! 5 (λ (x : Val). ‵ (fat fullShare T′.mir l₆ 0 x)) (ap only (LL.tells T.the-type T′.the-laws v _ is)) refl $
         split ! $ move ! (1 ∷ []) $ drop ! $ move ! (2 ∷ 3 ∷ 4 ∷ 5 ∷ 6 ∷ 7 ∷ []) $
         -- [the row; _4; _5; _6; _7; _8; out's token; …]: the record is stored
-        assigns ! (bin ! (load ! (from ! (stop !)) (look ! 1 refl)) (lit ! tt) (record { fits = mul-fits })) (from ! (stop !)) (init ! 4 refl (tt, record { fits = mul-fits })) $
-        assigns ! (bin ! (load ! (from ! (fld ! refl (stop !))) (look-in ! 8 (sub ! 0 refl (whole !)))) (load ! (from ! (stop !)) (look ! 4 refl)) tt) (from ! (stop !)) (init ! 5 refl (tt, tt)) $
+        assigns ! (bin ! (load ! (from ! (stop !)) (look ! 1 refl)) (lit ! tt) (record { fits = mul-fits })) (from ! (stop !))
+        (init ! 4 refl (tt, record { fits = mul-fits })) $
+        assigns ! (bin ! (load ! (from ! (fld ! refl (stop !))) (look-in ! 8 (sub ! 0 refl (whole !)))) (load ! (from ! (stop !)) (look ! 4 refl)) tt)
+        (from ! (stop !)) (init ! 5 refl (tt, tt)) $
         rewrite ! 5 (λ (p : ℕ). ‵ (fat fullShare tyPtr l₈ 0 (vptr b p))) (sym (place-is 30 o i)) refl $
         elem-out ! T.the-row (Is T.the-row) (shows 𝓤 H A T.the-row) vals (LL.tells T.the-type T′.the-laws) fullShare (over i) i v b o in-slice (λ _.
-        assigns ! (of-opd ! (load ! (from ! (stop !)) (look ! 5 refl))) (from ! (hop ! (look ! 7 refl) (stop !))) (store-raw ! 0 refl (LL.lawful T.the-type T′.the-laws 𝓤 H A W .typed v _ (spelt u is) .0)) $
-        move ! (1 ∷ []) $ drop ! $ owned ! T.the-row (Is T.the-row) ((LL.makes T.the-type T′.the-plain) 𝓤 H A) v _ (spelt u is) $ move ! (1 ∷ 0 ∷ []) $ elem-put ! T.the-row fullShare (over i) i v (vals v) b o in-slice $
-        assigns-last ! (bin ! (load ! (from ! (stop !)) (look ! 1 refl)) (lit ! tt) (record { fits = next-fits })) (from ! (stop !)) (store ! 1 refl (tt, record { fits = next-fits })) $
+        assigns ! (of-opd ! (load ! (from ! (stop !)) (look ! 5 refl))) (from ! (hop ! (look ! 7 refl) (stop !)))
+        (store-raw ! 0 refl (LL.lawful T.the-type T′.the-laws 𝓤 H A W .typed v _ (spelt u is) .0)) $
+        move ! (1 ∷ []) $ drop ! $ owned ! T.the-row (Is T.the-row) ((LL.makes T.the-type T′.the-plain) 𝓤 H A) v _ (spelt u is) $ move ! (1 ∷ 0 ∷ []) $
+        elem-put ! T.the-row fullShare (over i) i v (vals v) b o in-slice $
+        assigns-last ! (bin ! (load ! (from ! (stop !)) (look ! 1 refl)) (lit ! tt) (record { fits = next-fits })) (from ! (stop !))
+        (store ! 1 refl (tt, record { fits = next-fits })) $
         forget ! 2 refl $ forget ! 3 refl $ forget ! 4 refl $ forget ! 5 refl $
         rewrite ! 0 (λ (l : List Span). ‵ (row T.the-row fullShare l b o)) (over-one (now out) i ys (omega arith)) refl $
         rewrite ! 1 (λ (j : ℕ). ‵ (fat fullShare word l₄ 0 (vint w64 j))) (add-one i) refl $ by ! k)))))
@@ -246,7 +268,8 @@ module _ {M : Type 1} (𝓤 : URA M) (H : Heap 𝓤) (A : Atoms 𝓤) (W : Given
 
     -- the invariant holds where i records are written and t are left
     there : (t i : ℕ) → Facts t i → ent 𝓤 (⋆ 𝓤 H A (At i)) (Inv t)
-    there t i e = via 𝓤 (guard 𝓤 (Facts t i) (⋆ 𝓤 H A (At i))) (guardI 𝓤 (Facts t i) (⋆ 𝓤 H A (At i)) e) (exI 𝓤 (λ (j : ℕ). guard 𝓤 (Facts t j) (⋆ 𝓤 H A (At j))) i)
+    there t i e = via 𝓤 (guard 𝓤 (Facts t i) (⋆ 𝓤 H A (At i))) (guardI 𝓤 (Facts t i) (⋆ 𝓤 H A (At i)) e)
+        (exI 𝓤 (λ (j : ℕ). guard 𝓤 (Facts t j) (⋆ 𝓤 H A (At j))) i)
 
     -- a turn from the invariant at t leaves the loop, or ends in the invariant below t
     turn-at : (t i : ℕ) → Facts t i → ent 𝓤 (⋆ 𝓤 H A (At i)) (Wp 𝓤 H C Λ En body.turn-1 (afterTurn 𝓤 H (Below t) Left))
@@ -264,7 +287,11 @@ module _ {M : Type 1} (𝓤 : URA M) (H : Heap 𝓤) (A : Atoms 𝓤) (W : Given
 
     -- where the body begins: the parameters are in their locals
     abbrev Begun : List (Item 𝓤)
-    Begun = ‵ (froom tyPtr l₈ 0) ∷ ‵ (fdies tyPtr l₈) ∷ ‵ (froom word l₇ 0) ∷ ‵ (fdies word l₇) ∷ ‵ (froom T′.mir l₆ 0) ∷ ‵ (fdies T′.mir l₆) ∷ ‵ (froom tyBool l₅ 0) ∷ ‵ (fdies tyBool l₅) ∷ ‵ (froom word l₄ 0) ∷ ‵ (fdies word l₄) ∷ ‵ (fat fullShare word l₃ 0 (vint w64 n)) ∷ ‵ (fdies word l₃) ∷ ‵ (fat fullShare numbers l₂ 0 ov) ∷ ‵ (fdies numbers l₂) ∷ ‵ (fat fullShare slice l₁ 0 s) ∷ ‵ (fdies slice l₁) ∷ ‵ (froom tyUnit l₀ 0) ∷ ‵ (fdies tyUnit l₀) ∷ (‵ (flft κ₀ q₀) ⊛ ‵ (flft κ₁ q₁) ⊛ ‵ ftrue) ∷ ‵ (owns (MutSlice (named 0) κ₀ T.the-row ∷ ShrSlice (named 1) κ₁ u16 ∷ usize ∷ []) a at) ∷ []
+    Begun = ‵ (froom tyPtr l₈ 0) ∷ ‵ (fdies tyPtr l₈) ∷ ‵ (froom word l₇ 0) ∷ ‵ (fdies word l₇) ∷ ‵ (froom T′.mir l₆ 0) ∷ ‵ (fdies T′.mir l₆) ∷
+        ‵ (froom tyBool l₅ 0) ∷ ‵ (fdies tyBool l₅) ∷ ‵ (froom word l₄ 0) ∷ ‵ (fdies word l₄) ∷ ‵ (fat fullShare word l₃ 0 (vint w64 n)) ∷ ‵ (fdies word l₃) ∷
+        ‵ (fat fullShare numbers l₂ 0 ov) ∷ ‵ (fdies numbers l₂) ∷ ‵ (fat fullShare slice l₁ 0 s) ∷ ‵ (fdies slice l₁) ∷ ‵ (froom tyUnit l₀ 0) ∷
+        ‵ (fdies tyUnit l₀) ∷ (‵ (flft κ₀ q₀) ⊛ ‵ (flft κ₁ q₁) ⊛ ‵ ftrue) ∷
+        ‵ (owns (MutSlice (named 0) κ₀ T.the-row ∷ ShrSlice (named 1) κ₁ u16 ∷ usize ∷ []) a at) ∷ []
 
     -- the body, up to the loop: the borrow is opened once, before it
     begins : ent 𝓤 (⋆ 𝓤 H A Begun) (Wp 𝓤 H C Λ En body.t-1 (atReturn 𝓤 H En Post))
@@ -285,27 +312,36 @@ module _ {M : Type 1} (𝓤 : URA M) (H : Heap 𝓤) (A : Atoms 𝓤) (W : Given
   walk : (𝓣 : Tables 𝓤 H) → Triple 𝓤 (𝓣 .C #rows·span-at) (SpanAt 𝓤 H A at-mem run) → Room T.the-row (length ys) → length (out .now) < 2 ^ 64
       → ent 𝓤 (onEntry 𝓤 H A f.signature (κ₀, (κ₁, tt)) (q₀, (q₁, tt)) a at) (WpFn 𝓤 H (𝓣 .C) (𝓣 .Λ) code.function (s ∷ ov ∷ vint w64 n ∷ []) Post)
   walk 𝓣 known room o-fits =
-      qed W ((‵ (flft κ₀ q₀) ⊛ ‵ (flft κ₁ q₁) ⊛ ‵ ftrue) ∷ ‵ (owns (MutSlice (named 0) κ₀ T.the-row ∷ ShrSlice (named 1) κ₁ u16 ∷ usize ∷ []) a at) ∷ []) ∵ enter ! (𝓣 .C) (𝓣 .Λ) code.function (s ∷ ov ∷ vint w64 n ∷ []) _ $
+      qed W ((‵ (flft κ₀ q₀) ⊛ ‵ (flft κ₁ q₁) ⊛ ‵ ftrue) ∷ ‵ (owns (MutSlice (named 0) κ₀ T.the-row ∷ ShrSlice (named 1) κ₁ u16 ∷ usize ∷ []) a at) ∷ []) ∵
+      enter ! (𝓣 .C) (𝓣 .Λ) code.function (s ∷ ov ∷ vint w64 n ∷ []) _ $
       alloc-all ! (code.function .locals) (λ bs. params1 ! $
-      pass1 ! (init ! 14 refl (tt, (tt, (record { fits = room .0 }, tt)))) $ pass1 ! (init ! 12 refl (tt, (tt, (record { fits = o-fits }, tt)))) $ pass1 ! (init ! 10 refl (tt, record { fits = n-fits })) $ pass0 ! $
-      by ! (begins 𝓣 known room (bs .0) (bs .1 .0) (bs .1 .1 .0) (bs .1 .1 .1 .0) (bs .1 .1 .1 .1 .0) (bs .1 .1 .1 .1 .1 .0) (bs .1 .1 .1 .1 .1 .1 .0) (bs .1 .1 .1 .1 .1 .1 .1 .0) (bs .1 .1 .1 .1 .1 .1 .1 .1 .0)))
+      pass1 ! (init ! 14 refl (tt, (tt, (record { fits = room .0 }, tt)))) $ pass1 ! (init ! 12 refl (tt, (tt, (record { fits = o-fits }, tt)))) $
+      pass1 ! (init ! 10 refl (tt, record { fits = n-fits })) $ pass0 ! $
+      by ! (begins 𝓣 known room (bs .0) (bs .1 .0) (bs .1 .1 .0) (bs .1 .1 .1 .0) (bs .1 .1 .1 .1 .0) (bs .1 .1 .1 .1 .1 .0) (bs .1 .1 .1 .1 .1 .1 .0)
+      (bs .1 .1 .1 .1 .1 .1 .1 .0) (bs .1 .1 .1 .1 .1 .1 .1 .1 .0)))
 
-module _ {M : Type 1} (𝓤 : URA M) (H : Heap 𝓤) (A : Atoms 𝓤) (W : Given 𝓤 H A) (at-mem : Memory → SProp 𝓤) (run : Routine → Fun 𝓤) (𝓣 : Tables 𝓤 H) (known : Triple 𝓤 (𝓣 .C #rows·span-at) (SpanAt 𝓤 H A at-mem run)) where
+module _ {M : Type 1} (𝓤 : URA M) (H : Heap 𝓤) (A : Atoms 𝓤) (W : Given 𝓤 H A) (at-mem : Memory → SProp 𝓤) (run : Routine → Fun 𝓤) (𝓣 : Tables 𝓤 H)
+    (known : Triple 𝓤 (𝓣 .C #rows·span-at) (SpanAt 𝓤 H A at-mem run)) where
   write-rows-walks : Walks 𝓤 H A f.ended stayed (WpFn 𝓤 H (𝓣 .C) (𝓣 .Λ) code.function) (f.clauses 𝓤 H A at-mem run)
   write-rows-walks = walked 𝓤 H A f.ended stayed (f.clauses 𝓤 H A at-mem run) (WpFn 𝓤 H (𝓣 .C) (𝓣 .Λ) code.function)
-      (λ κs. (slice-vals, (slice-vals, (uint-vals w64, tt)))) (λ κs. (mut-slice-tells (named 0) (κs .0) T.the-row, (shr-slice-tells (named 1) (κs .1 .0) u16, (uint-tells w64, tt))))
+      (λ κs. (slice-vals, (slice-vals, (uint-vals w64, tt))))
+      (λ κs. (mut-slice-tells (named 0) (κs .0) T.the-row, (shr-slice-tells (named 1) (κs .1 .0) u16, (uint-tells w64, tt))))
       (λ κs qs bounds a g are. needs 𝓤 ((a .1 .1 .0 ≤ 2048) × (15 * a .1 .1 .0 ≤ length (a .1 .0 .now)) × (a .1 .1 .0 ≤ length (a .0 .now))) _ (λ asked.
-      walk 𝓤 H A W at-mem run (κs .0) (κs .1 .0) (qs .0) (qs .1 .0) (a .0 .ptr .0) (a .0 .ptr .1) (a .0 .name) (a .0 .now) (a .1 .0) (a .1 .1 .0) (are .1 .1 .0 .1) (asked .0) (asked .1) (asked .2) 𝓣 known (are .0 .0 .1) (are .1 .0 .0 .1 .0)))
+      walk 𝓤 H A W at-mem run (κs .0) (κs .1 .0) (qs .0) (qs .1 .0) (a .0 .ptr .0) (a .0 .ptr .1) (a .0 .name) (a .0 .now) (a .1 .0) (a .1 .1 .0)
+      (are .1 .1 .0 .1) (asked .0) (asked .1) (asked .2) 𝓣 known (are .0 .0 .1) (are .1 .0 .0 .1 .0)))
 
   write-rows-meets : Meets 𝓤 H A f.signature (WpFn 𝓤 H (𝓣 .C) (𝓣 .Λ) code.function) (f.spec 𝓤 H A at-mem run)
   write-rows-meets =
-      walk-meets 𝓤 H A f.ended stayed W (goes-slice 𝓤 H A W 2 0 tt (plain (λ _. T.the-row)), (goes-none-slice 𝓤 H A W 2 (1 ∷ []) tt (plain (λ _. u16)) yes, (goes-none 𝓤 H A W 2 (λ _. usize) yes (λ κs x f. refl), tt))) (f.clauses 𝓤 H A at-mem run)
+      walk-meets 𝓤 H A f.ended stayed W (
+        goes-slice 𝓤 H A W 2 0 tt (plain (λ _. T.the-row)),
+        (goes-none-slice 𝓤 H A W 2 (1 ∷ []) tt (plain (λ _. u16)) yes, (goes-none 𝓤 H A W 2 (λ _. usize) yes (λ κs x f. refl), tt)),
+      ) (f.clauses 𝓤 H A at-mem run)
       (WpFn 𝓤 H (𝓣 .C) (𝓣 .Λ) code.function) (WpFn-mono 𝓤 H (W .laws) 𝓣 code.function) write-rows-walks
 
 pub write-rows-spec : {M : Type 1} → stated.statement M
 unfolding code.routine tablesOf
 write-rows-spec 𝓤 H 𝓜 𝓖 𝓡 =
     entered 𝓤 H (tripleOf 𝓤 H (𝓖 .A) f.signature (f.spec 𝓤 H (𝓖 .A) (𝓜 .mem) (𝓡 .run)))
-    (tables 𝓤 H 𝓜 𝓡 code.env .C) (tables 𝓤 H 𝓜 𝓡 code.env .Λ) #write·write-rows code.function (code.unfolded 𝓤 H 𝓜 𝓡)
+    (tables 𝓤 H 𝓜 𝓡 code.env .C) (tables 𝓤 H 𝓜 𝓡 code.env .Λ) #listing·write-rows code.function (code.unfolded 𝓤 H 𝓜 𝓡)
     (write-rows-meets 𝓤 H (𝓖 .A) (givenOf 𝓤 H 𝓜 𝓖) (𝓜 .mem) (𝓡 .run) (tablesOf 𝓤 H 𝓜 (tables 𝓤 H 𝓜 𝓡 code.env))
     (cited 𝓤 H (SpanAt 𝓤 H (𝓖 .A) (𝓜 .mem) (𝓡 .run)) 𝓜 𝓡 code.env #rows·span-at span-def.routine code.calls-rows·span-at (span-thm.met 𝓤 H 𝓜 𝓖 𝓡)))

@@ -8,7 +8,7 @@ use lib.Seq.{drop-cons, append-snoc, set-at}
 use Rattle.layout.specs.declared.Span.{Span}
 use Rattle.rows.specs.Rows.{cells, spanAt, spansOf}
 use Rattle.rows.proofs.Laws.{cells-last, spans-length}
-use Rattle.write.specs.Overwrite.{overwrite}
+use Rattle.listing.specs.Overwrite.{overwrite}
 
 module _ (l : List ℕ) where
   spans-last : (n : ℕ) → spansOf l (suc n) ≡ spansOf l n ++ (spanAt l n ∷ [])
