@@ -1,4 +1,5 @@
 pub mod Counted
+pub mod Each
 pub mod Filled
 pub mod Lent
 pub mod Loan

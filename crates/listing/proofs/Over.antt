@@ -1,30 +1,29 @@
--- Laws of `overwrite`: none, its length, and one span more.
+-- The first n elements of a list overwritten, each as f says: none, the length, and one more.
 use mathlib.Core.Path.{_≡_, refl, sym, _∙_, ap}
 use Prim.Native.Nat.{ℕ, suc, _+_, _<_, _≤_}
 use native.Mathlib.Omega.{arith}
 use mathlib.Core.List.{List, [], _∷_, _++_}
 use lib.ListN.{length, drop, set, getD, length-append, length-drop}
 use lib.Seq.{drop-cons, append-snoc, set-at}
-use Rattle.layout.specs.declared.Span.{Span}
-use Rattle.rows.specs.Rows.{cells, spanAt, spansOf}
-use Rattle.rows.proofs.Laws.{cells-last, spans-length}
-use Rattle.listing.specs.Overwrite.{overwrite}
+use Rattle.rows.specs.Rows.{cells}
+use Rattle.rows.proofs.Laws.{cells-last, cells-length}
 
-module _ (l : List ℕ) where
-  spans-last : (n : ℕ) → spansOf l (suc n) ≡ spansOf l n ++ (spanAt l n ∷ [])
-  unfolding spansOf
-  spans-last n = cells-last (spanAt l) 0 n ∙ ap (λ (k : ℕ). cells (spanAt l) 0 n ++ (spanAt l k ∷ [])) (let e : 0 + n ≡ n = omega arith in e)
+module _ {A : Type 0} (f : ℕ → A) where
+  abbrev pub overwritten : ℕ → List A → List A
+  overwritten n ys = cells f 0 n ++ drop n ys
 
-  pub over-none : (ys : List Span) → ys ≡ overwrite l 0 ys
-  unfolding spansOf
+  cells-next : (n : ℕ) → cells f 0 (suc n) ≡ cells f 0 n ++ (f n ∷ [])
+  cells-next n = cells-last f 0 n ∙ ap (λ (k : ℕ). cells f 0 n ++ (f k ∷ [])) (let e : 0 + n ≡ n = omega arith in e)
+
+  pub over-none : (ys : List A) → ys ≡ overwritten 0 ys
   over-none ys = refl
 
-  pub over-length : (n : ℕ) (ys : List Span) → n ≤ length ys → length (overwrite l n ys) ≡ length ys
-  over-length n ys h = omega (arith, length-append (spansOf l n) (drop n ys), spans-length l n, length-drop n ys)
+  pub over-length : (n : ℕ) (ys : List A) → n ≤ length ys → length (overwritten n ys) ≡ length ys
+  over-length n ys h = omega (arith, length-append (cells f 0 n) (drop n ys), cells-length f 0 n, length-drop n ys)
 
-  pub over-one : (n : ℕ) (ys : List Span) → n < length ys → set (overwrite l n ys) n (spanAt l n) ≡ overwrite l (suc n) ys
+  pub over-one : (n : ℕ) (ys : List A) → n < length ys → set (overwritten n ys) n (f n) ≡ overwritten (suc n) ys
   over-one n ys h =
-      ap (λ (z : List Span). set (spansOf l n ++ z) n (spanAt l n)) (drop-cons ys n (spanAt l n) h)
-      ∙ set-at (spansOf l n) (getD ys n (spanAt l n)) (drop (suc n) ys) (spanAt l n) n (spans-length l n)
-      ∙ sym (append-snoc (spansOf l n) (spanAt l n) (drop (suc n) ys))
-      ∙ ap (λ (z : List Span). z ++ drop (suc n) ys) (sym (spans-last n))
+      ap (λ (z : List A). set (cells f 0 n ++ z) n (f n)) (drop-cons ys n (f n) h)
+      ∙ set-at (cells f 0 n) (getD ys n (f n)) (drop (suc n) ys) (f n) n (cells-length f 0 n)
+      ∙ sym (append-snoc (cells f 0 n) (f n) (drop (suc n) ys))
+      ∙ ap (λ (z : List A). z ++ drop (suc n) ys) (sym (cells-next n))
