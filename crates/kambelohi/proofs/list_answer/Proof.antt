@@ -13,7 +13,7 @@ list-answer-spec =
     (λ c κs. search needs)  -- plain-requires-3
     (λ c. search needs)  -- enum-known-a-4
     (λ c. search needs)  -- cast-t8
-    (λ c. rw (c .before .before .a .given .1) (cc))  -- returns
-    (λ c. rw (c .before .before .a2 .given .1) (cc))  -- returns-2
-    (λ c. rw (c .before .before .a3 .given .1) (cc))  -- returns-3
-    (λ c. rw (c .before .before .a4 .given .1) (cc)))  -- returns-4
+    (λ c. let p : tie.After-a = search in rw (p .a .given .1) (cc))  -- returns
+    (λ c. let p : tie.After-a2 = search in rw (p .a2 .given .1) (cc))  -- returns-2
+    (λ c. let p : tie.After-a3 = search in rw (p .a3 .given .1) (cc))  -- returns-3
+    (λ c. let p : tie.After-a4 = search in rw (p .a4 .given .1) (cc)))  -- returns-4

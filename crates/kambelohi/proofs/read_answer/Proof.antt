@@ -15,6 +15,6 @@ read-answer-spec =
     (λ c. search needs)  -- cast-t12
     (λ c. search needs)  -- cast-t13
     (λ c. search needs)  -- cast-t14
-    (λ c. rw (c .before .before .before .before .before .r .given .1) (cc))  -- returns
+    (λ c. let p : tie.After-r = search in rw (p .r .given .1) (cc))  -- returns
     (λ c. rw (c .enum-told .given .1))  -- returns-2
-    (λ c. rw (c .before .before .before .before .before .r2 .given .1) (cc)))  -- returns-3
+    (λ c. let p : tie.After-r2 = search in rw (p .r2 .given .1) (cc)))  -- returns-3
