@@ -122,7 +122,8 @@ pub extern "C" fn kambelohi_list(
     answer: usize,
     recs: &mut [Span],
 ) -> ListAnswer
-    ensures { λ r. ⌜ (r ≡ listAnswer (listingOf (now (file .entry)) (now (message .entry)) answer (now (recs .entry)))) × (now (recs .exit) ≡ afterOf (now (file .entry)) (now (message .entry)) answer (now (recs .entry))) ⌝ }
+    ensures { λ r. ⌜ (r ≡ listAnswer (listingOf (now (file .entry)) (now (message .entry)) answer (now (recs .entry))))
+        × (now (recs .exit) ≡ afterOf (now (file .entry)) (now (message .entry)) answer (now (recs .entry))) ⌝ }
 {
     list_answer(listing::list(file, message, answer, recs))
 }

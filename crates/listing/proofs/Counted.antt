@@ -1,6 +1,6 @@
 -- The listing over `answer::counted`: what that asks and answers, for `Filled.antt`, and what it says together with `write_rows`.
 use mathlib.Core.Path.{_≡_, sym, _∙_, ap, subst}
-use Prim.Native.Nat.{ℕ, _≤_, _*_}
+use Prim.Native.Nat.{ℕ, _<_, _≤_, _*_, _^_}
 use native.Mathlib.Omega.{arith}
 use mathlib.Core.List.{List, [], _∷_, _++_}
 use lib.ListN.{length, drop}
@@ -30,11 +30,11 @@ use denote.Triple.Statement.{Triple}
 use Rattle.layout.specs.declared.Span.{Span}
 use Rattle.layout.specs.declared.Answer.{Answer}
 use Rattle.layout.specs.Listing.{result, listing, after}
+use Rattle.layout.proofs.Span as T
 use Rattle.layout.proofs.Answer as An
 use Rattle.layout.proofs.Answer.Laws as An′
-use Rattle.rows.specs.Rows.{spansOf}
+use Rattle.rows.specs.Rows.{spanAt, spansOf}
 use Rattle.rows.proofs.Laws.{spans-length}
-use Rattle.listing.specs.Overwrite.{overwrite}
 use Rattle.answer.specs.declared.AnswerCount.{AnswerCount}
 use Rattle.answer.proofs.AnswerCount as B
 use Rattle.answer.proofs.AnswerCount.Laws as B′
@@ -44,8 +44,10 @@ use Rattle.listing.proofs.list as f
 use Rattle.listing.proofs.Thin.{left-of, Fits-in, Blocks, envOf, Takes}
 use Rattle.listing.proofs.Through.{Fit, passed, Promise, Met}
 use Rattle.listing.proofs.Lent.{Answered, Left}
-use Rattle.listing.proofs.Writer as writer
+use Rattle.listing.proofs.Over.{overwritten}
 use Rattle.listing.proofs.Writer.{Writing, slice-of}
+use Rattle.listing.proofs.write_rows as write
+use Rattle.listing.proofs.write_rows.Symbol as write-def
 use Rattle.listing.proofs.Filled.{four, args, calling, filled}
 
 -- what `counted` asks, and what it tells
@@ -61,12 +63,16 @@ Known file m n k r zs =
 abbrev pub Listed : List ℕ → List ℕ → ℕ → List Span → Answer → List Span → Type 0
 Listed file m n ys x ws = (x ≡ listing file m n ys) × (ws ≡ after file m n ys)
 
-room : (file m : List ℕ) (n k : ℕ) (r : AnswerCount) (zs : List ℕ) → Known file m n k r zs → (r .count ≤ 2048) × (15 * r .count ≤ length zs) × (r .count ≤ k)
-room file m n k r zs known = (omega (arith, known .2), known .4, known .3)
+-- what `write_rows` asks
+abbrev Few : List ℕ → ℕ → ℕ → Type 0
+Few l n k = (n ≤ 2048) × (15 * n ≤ length l) × (n ≤ k)
+
+room : (file m : List ℕ) (n k : ℕ) (r : AnswerCount) (zs : List ℕ) → Known file m n k r zs → (r .count < 2 ^ 64) × Few zs (r .count) k
+room file m n k r zs known = (omega (arith, known .2), (omega (arith, known .2), known .4, known .3))
 
 tells : (file m : List ℕ) (n : ℕ) (ys : List Span) (r : AnswerCount) (zs : List ℕ) → Known file m n (length ys) r zs
-    → Listed file m n ys (r .answer) (overwrite zs (r .count) ys)
-unfolding listing after
+    → Listed file m n ys (r .answer) (overwritten (spanAt zs) (r .count) ys)
+unfolding listing after spansOf
 tells file m n ys r zs known = (
   known .0,
   ap (λ (l : List Span). l ++ drop (r .count) ys) (known .1)
@@ -100,12 +106,16 @@ module _ {M : Type 1} (𝓤 : URA M) (H : Heap 𝓤) (A : Atoms 𝓤) (W : Given
   module _ (mem : Memory → SProp 𝓤) (run : Routine → Fun 𝓤) (𝓣 : Tables 𝓤 H) (N : ℕ) (N-room : Room u16 N) (req : (κs : Lfts 3) → Args f.signature κs → SProp 𝓤)
       (asks : (κs : Lfts 3) (a : Args f.signature κs) → ent 𝓤 (req κs a) (fact 𝓤 (Asks (now (a .1 .0)) N)))
       (known-counted : Triple 𝓤 (𝓣 .C counted-def.name) (tripleOf 𝓤 H A counted.signature (counted.spec 𝓤 H A mem run)))
-      (known-write : Triple 𝓤 (𝓣 .C writer.name) (Writing 𝓤 H A mem run)) where
+      (known-write : Triple 𝓤 (𝓣 .C write-def.name) (tripleOf 𝓤 H A write.signature (write.spec 𝓤 H A mem run))) where
+    writes : Triple 𝓤 (𝓣 .C write-def.name) (Writing T.the-type spanAt Few 𝓤 H A)
+    unfolding spansOf
+    writes = known-write
+
     pub lists : (fn : Fn) (block : Blocks (fn .locals) → ℕ)
         → ((κs : Lfts 3) (a : Args f.signature κs) → Fit f.signature four κs a → Takes (fn .locals) (passed f.signature four κs a))
         → ((κs : Lfts 3) (a : Args f.signature κs) (bs : Blocks (fn .locals)) → left-of (envOf (fn .locals) bs) (fn .body) (passed f.signature four κs a)
-        ≡ Left counted-def.name writer.name N B′.mir An′.mir (args κs a N) (slice-of (a .1 .1 .1 .0)) (block bs))
+        ≡ Left counted-def.name write-def.name N B′.mir An′.mir (args κs a N) (slice-of (a .1 .1 .1 .0)) (block bs))
         → Met 𝓤 f.ended H A (listing-of req) (WpFn 𝓤 H (𝓣 .C) (𝓣 .Λ) fn)
     lists fn block takes is =
-        filled 𝓤 H A W (𝓣 .C) (fmOf 𝓤 H (W .laws) 𝓣) mem run N N-room counted-def.name B.the-row B′.mir fits An.the-row An′.mir answer-fits
-        ((EL.makes An.the-type An′.the-plain) 𝓤 H A) answered Asks Known Listed room tells req asks known-counted known-write (𝓣 .Λ) fn block takes is
+        filled 𝓤 H A W (𝓣 .C) (fmOf 𝓤 H (W .laws) 𝓣) N N-room counted-def.name write-def.name Few B.the-row B′.mir fits An.the-row An′.mir answer-fits
+        ((EL.makes An.the-type An′.the-plain) 𝓤 H A) answered Asks Known Listed room tells req asks known-counted writes (𝓣 .Λ) fn block takes is

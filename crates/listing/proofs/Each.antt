@@ -1,12 +1,12 @@
--- A function that writes the first n elements of a lent slice of structs, each as a reader finds it in a slice of numbers: a walk of its MIR, by hand, with a loop
+-- A function that writes the first n elements of a lent slice of structs, each as a reader finds it in a slice of numbers: a walk of its MIR, by hand, with a
+-- loop
 -- and a call in each turn, over any struct and any reader. The borrow of the slice is opened once, before the loop, and closed once, after it.
 -- Between the two the slice's elements are the function's own (`overwritten i`), and each turn hands the reader a copy of the shared slice of numbers and the
 -- share of its lifetime's token, which come back.
 --     D, L, size       the struct, its laws, and its size in memory
 --     get              what the reader finds in the numbers, at i; it asks Reads of the two
 --     Few l n k        what is asked of the numbers l, of n and of the slice's length k
---     function         the code;    Rd, reading    the reader's contract;    Wr, clauses    the function's
---     each-meets       the code meets it
+--     Wr, clauses      the function's contract.        each-meets       its code meets it
 use mathlib.Core.Path.{_≡_, refl, sym, _∙_, ap, subst}
 use Prim.Native.Nat.{ℕ, zero, suc, _<_, _≤_, _*_, _+_, _-_, _^_}
 use native.Mathlib.Nat.{lt-irrefl, mul-le-mul-right}
@@ -67,23 +67,12 @@ fails false _ = refl
 small-enough : (p q : ℕ) → p ≤ q → q < 2 ^ 63 → p < 2 ^ 64
 small-enough p q h k = omega arith
 
-module _ (D : Declared) (L : LL.Laws D) (size : ℕ) (size-small : Holds (ltb size (2 ^ 64))) (size-is : mem (row-of D) .size ≡ size) (reader : Name)
-    (get : List ℕ → ℕ → D .D) (Few : List ℕ → ℕ → ℕ → Type 0) (Reads : List ℕ → ℕ → Type 0) (inside : (l : List ℕ) (n k : ℕ) → Few l n k → n ≤ k)
-    (reads : (l : List ℕ) (n k : ℕ) → Few l n k → (i : ℕ) → i < n → Reads l i) where
-  abbrev Elem : RattleType
+-- ---- the function's contract
+module _ (D : Declared) where
+  abbrev pub Elem : RattleType
   Elem = row-of D
 
-  abbrev τ : Ty
-  τ = layout (shape D)
-
-  -- ---- the two contracts
-  abbrev Rd : Ended
-  Rd = record {
-    signature = record { lifetimes = 1; outlives = []; params = shrSlice 0 tt (λ _. u16) ∷ plain (λ _. usize) ∷ []; result = plain (λ _. Elem) };
-    kept = (yes, (yes, tt));
-  }
-
-  abbrev Wr : Ended
+  abbrev pub Wr : Ended
   Wr = record {
     signature = record {
       lifetimes = 2;
@@ -94,10 +83,7 @@ module _ (D : Declared) (L : LL.Laws D) (size : ℕ) (size-small : Holds (ltb si
     kept = (yes, (yes, (yes, tt)));
   }
 
-  module _ {M : Type 1} (𝓤 : URA M) where
-    abbrev pub reading : Clauses 𝓤 Rd
-    reading κs a = record { ghost = Unit {0}; requires = λ _. fact 𝓤 (Reads (now (a .0)) (a .1 .0)); ensures = λ _ r e. fact 𝓤 (r ≡ get (now (a .0)) (a .1 .0)) }
-
+  module _ (get : List ℕ → ℕ → D .D) (Few : List ℕ → ℕ → ℕ → Type 0) {M : Type 1} (𝓤 : URA M) where
     abbrev pub clauses : Clauses 𝓤 Wr
     clauses κs a = record {
       ghost = Unit {0};
@@ -105,8 +91,32 @@ module _ (D : Declared) (L : LL.Laws D) (size : ℕ) (size-small : Holds (ltb si
       ensures = λ _ r e. fact 𝓤 (now (e .0) ≡ overwritten (get (now (a .1 .0))) (a .1 .1 .0) (now (a .0)));
     }
 
-  abbrev stayed : Stays (Wr .signature .params) (Wr .kept)
-  stayed = (stay-slice (0 ∷ []) tt (plain (λ _. Elem)), (stay-none-slice (1 ∷ []) tt (plain (λ _. u16)) yes, (stay-none (λ _. usize) yes, tt)))
+module _ (D : Declared) (L : LL.Laws D) (size : ℕ) (size-small : Holds (ltb size (2 ^ 64))) (size-is : mem (row-of D) .size ≡ size) (reader : Name)
+    (get : List ℕ → ℕ → D .D) (Few : List ℕ → ℕ → ℕ → Type 0) (Reads : List ℕ → ℕ → Type 0) (inside : (l : List ℕ) (n k : ℕ) → Few l n k → n ≤ k)
+    (reads : (l : List ℕ) (n k : ℕ) → Few l n k → (i : ℕ) → i < n → Reads l i) where
+  abbrev El : RattleType
+  El = Elem D
+
+  abbrev τ : Ty
+  τ = layout (shape D)
+
+  -- the reader's contract
+  abbrev Rd : Ended
+  Rd = record {
+    signature = record { lifetimes = 1; outlives = []; params = shrSlice 0 tt (λ _. u16) ∷ plain (λ _. usize) ∷ []; result = plain (λ _. El) };
+    kept = (yes, (yes, tt));
+  }
+
+  module _ {M : Type 1} (𝓤 : URA M) where
+    abbrev reading : Clauses 𝓤 Rd
+    reading κs a = record {
+      ghost = Unit {0};
+      requires = λ _. fact 𝓤 (Reads (now (a .0)) (a .1 .0));
+      ensures = λ _ r e. fact 𝓤 (r ≡ get (now (a .0)) (a .1 .0));
+    }
+
+  abbrev stayed : Stays (Wr D .signature .params) (Wr D .kept)
+  stayed = (stay-slice (0 ∷ []) tt (plain (λ _. El)), (stay-none-slice (1 ∷ []) tt (plain (λ _. u16)) yes, (stay-none (λ _. usize) yes, tt)))
 
   -- ---- machine values
   abbrev vals : D .D → List Val
@@ -116,7 +126,7 @@ module _ (D : Declared) (L : LL.Laws D) (size : ℕ) (size-small : Holds (ltb si
   word = tyInt w64
 
   abbrev slice : Ty
-  slice = sliceTy (tyRef (named 0) mut (pointee (Elem .written)))
+  slice = sliceTy (tyRef (named 0) mut (pointee (El .written)))
 
   abbrev numbers : Ty
   numbers = sliceTy (tyRef (named 1) imm (tyInt w16))
@@ -141,14 +151,21 @@ module _ (D : Declared) (L : LL.Laws D) (size : ℕ) (size-small : Holds (ltb si
       ∷ local τ valueLocal ∷ local word valueLocal ∷ local tyPtr valueLocal ∷ []
 
   abbrev pub function : Fn
-  function = record { lifetimes = 2; outlives = []; params = 3; locals = locals; body = seq (assign (place 4 []) (rvOpd (int w64 0))) (seq (block (loop turn)) after) }
+  function = record {
+    lifetimes = 2;
+    outlives = [];
+    params = 3;
+    locals = locals;
+    body = seq (assign (place 4 []) (rvOpd (int w64 0)))
+        (seq (block (loop turn)) after);
+  }
 
   module _ {M : Type 1} (𝓤 : URA M) (H : Heap 𝓤) (A : Atoms 𝓤) where
     -- the contract that the proof cites
     abbrev Reading : Contract 𝓤
     Reading = tripleOf 𝓤 H A (Rd .signature) (closing 𝓤 H A Rd (reading 𝓤))
 
-  module _ {M : Type 1} (𝓤 : URA M) (H : Heap 𝓤) (A : Atoms 𝓤) (W : Given 𝓤 H A) (makes : Makes 𝓤 H A Elem (Is Elem)) (κ₀ κ₁ : Lft)
+  module _ {M : Type 1} (𝓤 : URA M) (H : Heap 𝓤) (A : Atoms 𝓤) (W : Given 𝓤 H A) (makes : Makes 𝓤 H A El (Is El)) (κ₀ κ₁ : Lft)
       (q₀ q₁ : Share) (b o : ℕ) (γ : GName) (ys : List (D .D)) (out : RefT (List ℕ)) (n : ℕ)
       (n-fits : n < 2 ^ 64) (few : Few (now out) n (length ys)) (fit : n ≤ length ys) where
     abbrev over : ℕ → List (D .D)
@@ -176,7 +193,7 @@ module _ (D : Declared) (L : LL.Laws D) (size : ℕ) (size-small : Holds (ltb si
     at = (s ∷ [], (ov ∷ [], (vint w64 n ∷ [], tt)))
 
     abbrev Post : Val → SProp 𝓤
-    Post = walkOf 𝓤 H A Wr stayed (clauses 𝓤) .post (((κ₀, (κ₁, tt)), (q₀, (q₁, tt)), tt, a, at), tt)
+    Post = walkOf 𝓤 H A (Wr D) stayed (clauses D get Few 𝓤) .post (((κ₀, (κ₁, tt)), (q₀, (q₁, tt)), tt, a, at), tt)
 
     abbrev OwnO : Fml
     OwnO = ShrSlice (named 1) κ₁ u16 .own out (ov ∷ [])
@@ -193,23 +210,23 @@ module _ (D : Declared) (L : LL.Laws D) (size : ℕ) (size-small : Holds (ltb si
     said : (i : ℕ) (r : D .D) → ent 𝓤 (ensured 𝓤 H A Rd (reading 𝓤) (κ₁, tt) (out, (i, tt)) tt r) (fact 𝓤 (r ≡ get (now out) i))
     said i r = exE 𝓤 _ (λ ws. snd∗ 𝓤 (sem 𝓤 H A (lasts Rd (κ₁, tt) (out, (i, tt)) ws)) (fact 𝓤 (r ≡ get (now out) i)))
 
-    exits : Room Elem (length ys)
-        → ent 𝓤 (⋆ 𝓤 H A (‵ (fobs γ (codedHoleys Elem .code (heres Elem (over n)))) ∷ ‵ (fbor κ₀ (Held Elem (length (over n)) b o γ)) ∷
+    exits : Room El (length ys)
+        → ent 𝓤 (⋆ 𝓤 H A (‵ (fobs γ (codedHoleys El .code (heres El (over n)))) ∷ ‵ (fbor κ₀ (Held El (length (over n)) b o γ)) ∷
         ‵ (flft κ₀ q₀) ∷ ‵ (flft κ₁ q₁) ∷ ‵ OwnO ∷ [])) (Post vunit)
     exits room =
-        qed W (‵ (fobs γ (codedHoleys Elem .code (heres Elem (over n)))) ∷ ‵ (fbor κ₀ (Held Elem (length (over n)) b o γ)) ∷ ‵ (flft κ₀ q₀) ∷
+        qed W (‵ (fobs γ (codedHoleys El .code (heres El (over n)))) ∷ ‵ (fbor κ₀ (Held El (length (over n)) b o γ)) ∷ ‵ (flft κ₀ q₀) ∷
         ‵ (flft κ₁ q₁) ∷ ‵ OwnO ∷ []) ∵
-        suffices ! _ (ends-at 𝓤 H A Wr stayed (clauses 𝓤) W (((κ₀, (κ₁, tt)), (q₀, (q₁, tt)), tt, a, at), tt) vunit tt
+        suffices ! _ (ends-at 𝓤 H A (Wr D) stayed (clauses D get Few 𝓤) W (((κ₀, (κ₁, tt)), (q₀, (q₁, tt)), tt, a, at), tt) vunit tt
         (over n, (tt, (tt, tt))) (as-long n (omega arith), (tt, (tt, tt)))) $ says ! refl $
         nothing ! $ move ! (4 ∷ 0 ∷ []) $ join ! $ move ! (3 ∷ 0 ∷ []) $ join ! $ frame ! $
         -- [obs; the borrow; out]
-        fjoin ! $ pureI ! (at-slice Elem (Ref (over n)) (s ∷ [])) (tt, (tt, tt))
-        (ap (λ (m : ℕ). sliceVal (b, o) m ∷ []) (sym (as-long n (omega arith))), subst (Room Elem) (sym (as-long n (omega arith))) room) $ fjoin ! $
+        fjoin ! $ pureI ! (at-slice El (Ref (over n)) (s ∷ [])) (tt, (tt, tt))
+        (ap (λ (m : ℕ). sliceVal (b, o) m ∷ []) (sym (as-long n (omega arith))), subst (Room El) (sym (as-long n (omega arith))) room) $ fjoin ! $
         nothing ! $ owned ! usize (Is usize) (uint-makes 𝓤 H A W w64) n _ (refl, n-fits) $ fjoin ! $ move ! (2 ∷ 0 ∷ []) $ fjoin ! $ move ! (1 ∷ 0 ∷ []) $
         fjoin ! $
         feqI ! (List Val) (vunit ∷ []) (vunit ∷ []) refl $ move ! (1 ∷ 0 ∷ []) $ done !
 
-    module _ (𝓣 : Tables 𝓤 H) (known : Triple 𝓤 (𝓣 .C reader) (Reading 𝓤 H A)) (room : Room Elem (length ys))
+    module _ (𝓣 : Tables 𝓤 H) (known : Triple 𝓤 (𝓣 .C reader) (Reading 𝓤 H A)) (room : Room El (length ys))
         (l₀ l₁ l₂ l₃ l₄ l₅ l₆ l₇ l₈ : ℕ) where
       abbrev C : Calls 𝓤 H
       C = 𝓣 .C
@@ -225,14 +242,14 @@ module _ (D : Declared) (L : LL.Laws D) (size : ℕ) (size-small : Holds (ltb si
       abbrev Frame : List (Item 𝓤)
       Frame = ‵ (flft κ₁ q₁) ∷ ‵ OwnO ∷ ‵ (fat fullShare slice l₁ 0 s) ∷ ‵ (fat fullShare numbers l₂ 0 ov) ∷ ‵ (fat fullShare word l₃ 0 (vint w64 n)) ∷
           ‵ (froom tyUnit l₀ 0)
-          ∷ ‵ (fobor κ₀ q₀ (Held Elem (length ys) b o γ)) ∷ ‵ (fobs γ (codedHoleys Elem .code (heres Elem ys))) ∷
-          ‵ (fauth γ (codedHoleys Elem .code (heres Elem ys)))
+          ∷ ‵ (fobor κ₀ q₀ (Held El (length ys) b o γ)) ∷ ‵ (fobs γ (codedHoleys El .code (heres El ys))) ∷
+          ‵ (fauth γ (codedHoleys El .code (heres El ys)))
           ∷ ‵ (fdies tyUnit l₀) ∷ ‵ (fdies slice l₁) ∷ ‵ (fdies numbers l₂) ∷ ‵ (fdies word l₃) ∷ ‵ (fdies word l₄) ∷ ‵ (fdies tyBool l₅) ∷ ‵ (fdies τ l₆) ∷
           ‵ (fdies word l₇) ∷ ‵ (fdies tyPtr l₈) ∷ []
 
       -- i elements are written
       abbrev At : ℕ → List (Item 𝓤)
-      At i = ‵ (row Elem fullShare (over i) b o) ∷ ‵ (fat fullShare word l₄ 0 (vint w64 i)) ∷ ‵ (froom tyBool l₅ 0) ∷ ‵ (froom τ l₆ 0) ∷
+      At i = ‵ (row El fullShare (over i) b o) ∷ ‵ (fat fullShare word l₄ 0 (vint w64 i)) ∷ ‵ (froom tyBool l₅ 0) ∷ ‵ (froom τ l₆ 0) ∷
           ‵ (froom word l₇ 0) ∷ ‵ (froom tyPtr l₈ 0) ∷ Frame
 
       -- the invariant, where t elements are left
@@ -254,7 +271,8 @@ module _ (D : Declared) (L : LL.Laws D) (size : ℕ) (size-small : Holds (ltb si
       unfolding afterTurn
       more i X small k =
           qed W (At i) ∵ exec ! C Λ En turn (anyQ (afterTurn 𝓤 H X Left)) $
-          assigns ! (bin ! (load ! (from ! (stop !)) (look ! 1 refl)) (load ! (from ! (stop !)) (look ! 10 refl)) tt) (from ! (stop !)) (init ! 2 refl (tt, tt)) $
+          assigns ! (bin ! (load ! (from ! (stop !)) (look ! 1 refl)) (load ! (from ! (stop !)) (look ! 10 refl)) tt) (from ! (stop !))
+          (init ! 2 refl (tt, tt)) $
           rewrite ! 2 (λ (t : Bool). ‵ (fat fullShare tyBool l₅ 0 (vbool t))) (holds (ltb i n) (lt→ltb i n small)) refl $
           stays ! (load ! (from ! (stop !)) (look ! 2 refl)) $
           -- the reader: a copy of the shared slice goes with its token, and the token comes back
@@ -262,11 +280,11 @@ module _ (D : Declared) (L : LL.Laws D) (size : ℕ) (size-small : Holds (ltb si
           use2 W (raw (Reading 𝓤 H A .pre (to-read i))) (goes-read i small) $
           calls-at ! (fmOf 𝓤 H (W .laws) 𝓣) (Reading 𝓤 H A) known (to-read i)
           (and-then ! (load ! (from ! (stop !)) (look ! 9 refl)) (and-then ! (load ! (from ! (stop !)) (look ! 3 refl)) (no-more !))) (λ u.
-          use1 W (later (some (λ (r : D .D). ((‵ (flft κ₁ q₁) ⊛ ‵ ftrue) ⊛ ‵ (Elem .own r (u ∷ []))) ⊛ raw
-          (ensured 𝓤 H A Rd (reading 𝓤) (κ₁, tt) (out, (i, tt)) tt r)))) (id⊢ 𝓤 _) $ await ! tt $ pick ! (λ r.
+          use1 W (later (some (λ (r : D .D). ((‵ (flft κ₁ q₁) ⊛ ‵ ftrue) ⊛ ‵ (El .own r (u ∷ []))) ⊛
+          raw (ensured 𝓤 H A Rd (reading 𝓤) (κ₁, tt) (out, (i, tt)) tt r)))) (id⊢ 𝓤 _) $ await ! tt $ pick ! (λ r.
           split ! $ move ! (1 ∷ []) $ use1 W (raw (fact 𝓤 (r ≡ get (now out) i))) (said i r) $ heard ! (r ≡ get (now out) i) (λ e. split ! $
-          rewrite ! 1 (λ (z : D .D). ‵ (Elem .own z (u ∷ []))) e refl $ move ! (1 ∷ []) $
-          peeks ! Elem (Is Elem) (shows 𝓤 H A Elem) v (u ∷ []) (λ is. drop ! $
+          rewrite ! 1 (λ (z : D .D). ‵ (El .own z (u ∷ []))) e refl $ move ! (1 ∷ []) $
+          peeks ! El (Is El) (shows 𝓤 H A El) v (u ∷ []) (λ is. drop ! $
           land ! (from ! (stop !)) (init ! 5 refl (LL.lawful D L 𝓤 H A W .typed v _ is .0)) $
           rewrite ! 5 (λ (x : Val). ‵ (fat fullShare τ l₆ 0 x)) (ap only (LL.tells D L v _ is)) refl $
           split ! $ move ! (1 ∷ []) $ drop ! $ move ! (2 ∷ 3 ∷ 4 ∷ 5 ∷ 6 ∷ 7 ∷ []) $
@@ -275,26 +293,27 @@ module _ (D : Declared) (L : LL.Laws D) (size : ℕ) (size-small : Holds (ltb si
           (init ! 4 refl (tt, record { fits = mul-fits })) $
           assigns ! (bin ! (load ! (from ! (fld ! refl (stop !))) (look-in ! 8 (sub ! 0 refl (whole !)))) (load ! (from ! (stop !)) (look ! 4 refl)) tt)
           (from ! (stop !)) (init ! 5 refl (tt, tt)) $
-          rewrite ! 5 (λ (p : ℕ). ‵ (fat fullShare tyPtr l₈ 0 (vptr b p))) (ap (λ (m : ℕ). i * m + o) (sym size-is) ∙ sym (place-is (mem Elem .size) o i)) refl $
-          elem-out ! Elem (Is Elem) (shows 𝓤 H A Elem) vals (LL.tells D L) fullShare (over i) i v b o in-slice (λ _.
+          rewrite ! 5 (λ (p : ℕ). ‵ (fat fullShare tyPtr l₈ 0 (vptr b p))) (ap (λ (m : ℕ). i * m + o) (sym size-is) ∙ sym (place-is (mem El .size) o i)) refl $
+          elem-out ! El (Is El) (shows 𝓤 H A El) vals (LL.tells D L) fullShare (over i) i v b o in-slice (λ _.
           assigns ! (of-opd ! (load ! (from ! (stop !)) (look ! 5 refl))) (from ! (hop ! (look ! 7 refl) (stop !)))
           (store-raw ! 0 refl (LL.lawful D L 𝓤 H A W .typed v _ (spelt u is) .0)) $
-          move ! (1 ∷ []) $ drop ! $ owned ! Elem (Is Elem) makes v _ (spelt u is) $ move ! (1 ∷ 0 ∷ []) $
-          elem-put ! Elem fullShare (over i) i v (vals v) b o in-slice $
+          move ! (1 ∷ []) $ drop ! $ owned ! El (Is El) makes v _ (spelt u is) $ move ! (1 ∷ 0 ∷ []) $
+          elem-put ! El fullShare (over i) i v (vals v) b o in-slice $
           assigns-last ! (bin ! (load ! (from ! (stop !)) (look ! 1 refl)) (lit ! tt) (record { fits = next-fits })) (from ! (stop !))
           (store ! 1 refl (tt, record { fits = next-fits })) $
           forget ! 2 refl $ forget ! 3 refl $ forget ! 4 refl $ forget ! 5 refl $
-          rewrite ! 0 (λ (l : List (D .D)). ‵ (row Elem fullShare l b o)) (over-one (get (now out)) i ys (omega arith)) refl $
+          rewrite ! 0 (λ (l : List (D .D)). ‵ (row El fullShare l b o)) (over-one (get (now out)) i ys (omega arith)) refl $
           rewrite ! 1 (λ (j : ℕ). ‵ (fat fullShare word l₄ 0 (vint w64 j))) (add-one i) refl $ by ! k)))))
         where
           v : D .D
           v = get (now out) i
 
-          spelt : (u : Val) → Is Elem v (u ∷ []) → Is Elem v (vals v)
-          spelt u is = subst (Is Elem v) (LL.tells D L v _ is) is
+          spelt : (u : Val) → Is El v (u ∷ []) → Is El v (vals v)
+          spelt u is = subst (Is El v) (LL.tells D L v _ is) is
 
           mul-fits : i * size < 2 ^ 64
-          mul-fits = subst (λ (m : ℕ). i * m < 2 ^ 64) size-is (small-enough (i * mem Elem .size) (length ys * mem Elem .size) (mul-le-mul-right (mem Elem .size) (omega arith)) (room .1))
+          mul-fits = subst (λ (m : ℕ). i * m < 2 ^ 64) size-is
+              (small-enough (i * mem El .size) (length ys * mem El .size) (mul-le-mul-right (mem El .size) (omega arith)) (room .1))
 
           next-fits : i + 1 < 2 ^ 64
           next-fits = omega arith
@@ -307,10 +326,11 @@ module _ (D : Declared) (L : LL.Laws D) (size : ℕ) (size-small : Holds (ltb si
       unfolding afterTurn
       ends X =
           qed W (At n) ∵ exec ! C Λ En turn (anyQ (afterTurn 𝓤 H X Left)) $
-          assigns ! (bin ! (load ! (from ! (stop !)) (look ! 1 refl)) (load ! (from ! (stop !)) (look ! 10 refl)) tt) (from ! (stop !)) (init ! 2 refl (tt, tt)) $
+          assigns ! (bin ! (load ! (from ! (stop !)) (look ! 1 refl)) (load ! (from ! (stop !)) (look ! 10 refl)) tt) (from ! (stop !))
+          (init ! 2 refl (tt, tt)) $
           rewrite ! 2 (λ (t : Bool). ‵ (fat fullShare tyBool l₅ 0 (vbool t))) (fails (ltb n n) (λ z. lt-irrefl n (ltb→lt n n z))) refl $
           leaves-loop ! (load ! (from ! (stop !)) (look ! 2 refl)) $ exec ! C Λ En after (atRet En Post) $
-          move ! (0 ∷ 12 ∷ 13 ∷ 14 ∷ []) $ closes-slice ! tt Elem ys (over n) (as-long n (omega arith)) b o $
+          move ! (0 ∷ 12 ∷ 13 ∷ 14 ∷ []) $ closes-slice ! tt El ys (over n) (as-long n (omega arith)) b o $
           -- [obs; the borrow; recs' token; _4; _5; _6; _7; _8; out's token; what it owns; _1; _2; _3; room for _0; and that each local dies]
           assigns ! (of-opd ! (unit-lit !)) (from ! (stop !)) (init ! 13 refl (tt, tt)) $
           returns ! (look ! 13 refl) $ forget ! 3 refl $ forget ! 4 refl $ forget ! 10 refl $ forget ! 11 refl $ forget ! 12 refl $ forget ! 13 refl $
@@ -342,7 +362,7 @@ module _ (D : Declared) (L : LL.Laws D) (size : ℕ) (size-small : Holds (ltb si
           ‵ (froom tyBool l₅ 0) ∷ ‵ (fdies tyBool l₅) ∷ ‵ (froom word l₄ 0) ∷ ‵ (fdies word l₄) ∷ ‵ (fat fullShare word l₃ 0 (vint w64 n)) ∷ ‵ (fdies word l₃) ∷
           ‵ (fat fullShare numbers l₂ 0 ov) ∷ ‵ (fdies numbers l₂) ∷ ‵ (fat fullShare slice l₁ 0 s) ∷ ‵ (fdies slice l₁) ∷ ‵ (froom tyUnit l₀ 0) ∷
           ‵ (fdies tyUnit l₀) ∷ (‵ (flft κ₀ q₀) ⊛ ‵ (flft κ₁ q₁) ⊛ ‵ ftrue) ∷
-          ‵ (owns (MutSlice (named 0) κ₀ Elem ∷ ShrSlice (named 1) κ₁ u16 ∷ usize ∷ []) a at) ∷ []
+          ‵ (owns (MutSlice (named 0) κ₀ El ∷ ShrSlice (named 1) κ₁ u16 ∷ usize ∷ []) a at) ∷ []
 
       -- the body, up to the loop: the borrow is opened once, before it
       begins : ent 𝓤 (⋆ 𝓤 H A Begun) (Wp 𝓤 H C Λ En (function .body) (atReturn 𝓤 H En Post))
@@ -353,17 +373,17 @@ module _ (D : Declared) (L : LL.Laws D) (size : ℕ) (size-small : Holds (ltb si
           -- [what out owns; n's fact; obs; the borrow; recs' fact; _8; …; …; _0; …; the tokens]
           move ! (23 ∷ []) $ split ! $ move ! (1 ∷ []) $ split ! $
           -- [out's token; true; recs' token; what out owns; n's fact; obs; the borrow; recs' fact; _8; …]
-          move ! (5 ∷ 6 ∷ 2 ∷ []) $ opens-slice ! tt Elem ys b o $
-          rewrite ! 0 (λ (l : List (D .D)). ‵ (row Elem fullShare l b o)) (over-none (get (now out)) ys) refl $
+          move ! (5 ∷ 6 ∷ 2 ∷ []) $ opens-slice ! tt El ys b o $
+          rewrite ! 0 (λ (l : List (D .D)). ‵ (row El fullShare l b o)) (over-none (get (now out)) ys) refl $
           -- [the row; the open borrow; obs; auth; out's token; true; what out owns; n's fact; recs' fact; _8 at 9; _7 at 11; …; _0 at 25]
           keep ! (0 ∷ 17 ∷ 15 ∷ 13 ∷ 11 ∷ 9 ∷ 4 ∷ 6 ∷ 23 ∷ 21 ∷ 19 ∷ 25 ∷ 1 ∷ 2 ∷ 3 ∷ 26 ∷ 24 ∷ 22 ∷ 20 ∷ 18 ∷ 16 ∷ 14 ∷ 12 ∷ 10 ∷ []) $
           by ! loops
 
     -- the locals are allocated, and the arguments stored
-    walk : (𝓣 : Tables 𝓤 H) → Triple 𝓤 (𝓣 .C reader) (Reading 𝓤 H A) → Room Elem (length ys) → length (out .now) < 2 ^ 64
-        → ent 𝓤 (onEntry 𝓤 H A (Wr .signature) (κ₀, (κ₁, tt)) (q₀, (q₁, tt)) a at) (WpFn 𝓤 H (𝓣 .C) (𝓣 .Λ) function (s ∷ ov ∷ vint w64 n ∷ []) Post)
+    walk : (𝓣 : Tables 𝓤 H) → Triple 𝓤 (𝓣 .C reader) (Reading 𝓤 H A) → Room El (length ys) → length (out .now) < 2 ^ 64
+        → ent 𝓤 (onEntry 𝓤 H A (Wr D .signature) (κ₀, (κ₁, tt)) (q₀, (q₁, tt)) a at) (WpFn 𝓤 H (𝓣 .C) (𝓣 .Λ) function (s ∷ ov ∷ vint w64 n ∷ []) Post)
     walk 𝓣 known room o-fits =
-        qed W ((‵ (flft κ₀ q₀) ⊛ ‵ (flft κ₁ q₁) ⊛ ‵ ftrue) ∷ ‵ (owns (MutSlice (named 0) κ₀ Elem ∷ ShrSlice (named 1) κ₁ u16 ∷ usize ∷ []) a at) ∷ []) ∵
+        qed W ((‵ (flft κ₀ q₀) ⊛ ‵ (flft κ₁ q₁) ⊛ ‵ ftrue) ∷ ‵ (owns (MutSlice (named 0) κ₀ El ∷ ShrSlice (named 1) κ₁ u16 ∷ usize ∷ []) a at) ∷ []) ∵
         enter ! (𝓣 .C) (𝓣 .Λ) function (s ∷ ov ∷ vint w64 n ∷ []) _ $
         alloc-all ! (function .locals) (λ bs. params1 ! $
         pass1 ! (init ! 14 refl (tt, (tt, (record { fits = room .0 }, tt)))) $ pass1 ! (init ! 12 refl (tt, (tt, (record { fits = o-fits }, tt)))) $
@@ -371,20 +391,20 @@ module _ (D : Declared) (L : LL.Laws D) (size : ℕ) (size-small : Holds (ltb si
         by ! (begins 𝓣 known room (bs .0) (bs .1 .0) (bs .1 .1 .0) (bs .1 .1 .1 .0) (bs .1 .1 .1 .1 .0) (bs .1 .1 .1 .1 .1 .0) (bs .1 .1 .1 .1 .1 .1 .0)
         (bs .1 .1 .1 .1 .1 .1 .1 .0) (bs .1 .1 .1 .1 .1 .1 .1 .1 .0)))
 
-  module _ {M : Type 1} (𝓤 : URA M) (H : Heap 𝓤) (A : Atoms 𝓤) (W : Given 𝓤 H A) (makes : Makes 𝓤 H A Elem (Is Elem)) (𝓣 : Tables 𝓤 H)
+  module _ {M : Type 1} (𝓤 : URA M) (H : Heap 𝓤) (A : Atoms 𝓤) (W : Given 𝓤 H A) (makes : Makes 𝓤 H A El (Is El)) (𝓣 : Tables 𝓤 H)
       (known : Triple 𝓤 (𝓣 .C reader) (Reading 𝓤 H A)) where
-    each-walks : Walks 𝓤 H A Wr stayed (WpFn 𝓤 H (𝓣 .C) (𝓣 .Λ) function) (clauses 𝓤)
-    each-walks = walked 𝓤 H A Wr stayed (clauses 𝓤) (WpFn 𝓤 H (𝓣 .C) (𝓣 .Λ) function)
+    each-walks : Walks 𝓤 H A (Wr D) stayed (WpFn 𝓤 H (𝓣 .C) (𝓣 .Λ) function) (clauses D get Few 𝓤)
+    each-walks = walked 𝓤 H A (Wr D) stayed (clauses D get Few 𝓤) (WpFn 𝓤 H (𝓣 .C) (𝓣 .Λ) function)
         (λ κs. (slice-vals, (slice-vals, (uint-vals w64, tt))))
-        (λ κs. (mut-slice-tells (named 0) (κs .0) Elem, (shr-slice-tells (named 1) (κs .1 .0) u16, (uint-tells w64, tt))))
+        (λ κs. (mut-slice-tells (named 0) (κs .0) El, (shr-slice-tells (named 1) (κs .1 .0) u16, (uint-tells w64, tt))))
         (λ κs qs bounds a g are. needs 𝓤 (Few (a .1 .0 .now) (a .1 .1 .0) (length (a .0 .now))) _ (λ asked.
         walk 𝓤 H A W makes (κs .0) (κs .1 .0) (qs .0) (qs .1 .0) (a .0 .ptr .0) (a .0 .ptr .1) (a .0 .name) (a .0 .now) (a .1 .0) (a .1 .1 .0)
         (are .1 .1 .0 .1) asked (inside (a .1 .0 .now) (a .1 .1 .0) (length (a .0 .now)) asked) 𝓣 known (are .0 .0 .1) (are .1 .0 .0 .1 .0)))
 
-    pub each-meets : Meets 𝓤 H A (Wr .signature) (WpFn 𝓤 H (𝓣 .C) (𝓣 .Λ) function) (closing 𝓤 H A Wr (clauses 𝓤))
+    pub each-meets : Meets 𝓤 H A (Wr D .signature) (WpFn 𝓤 H (𝓣 .C) (𝓣 .Λ) function) (closing 𝓤 H A (Wr D) (clauses D get Few 𝓤))
     each-meets =
-        walk-meets 𝓤 H A Wr stayed W (
-          goes-slice 𝓤 H A W 2 0 tt (plain (λ _. Elem)),
+        walk-meets 𝓤 H A (Wr D) stayed W (
+          goes-slice 𝓤 H A W 2 0 tt (plain (λ _. El)),
           (goes-none-slice 𝓤 H A W 2 (1 ∷ []) tt (plain (λ _. u16)) yes, (goes-none 𝓤 H A W 2 (λ _. usize) yes (λ κs x f. refl), tt)),
-        ) (clauses 𝓤)
+        ) (clauses D get Few 𝓤)
         (WpFn 𝓤 H (𝓣 .C) (𝓣 .Λ) function) (WpFn-mono 𝓤 H (W .laws) 𝓣 function) each-walks

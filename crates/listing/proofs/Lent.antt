@@ -77,21 +77,22 @@ module _ {M : Type 1} (𝓤 : URA M) (H : Heap 𝓤) (A : Atoms 𝓤) (W : Given
   abbrev tok : ℕ → Fml
   tok α = flft (α ∷ []) fullShare
 
-  -- what comes back of the callee, where Back came back of what it was given and Known is known of its answer r and the list zs in the array
-  module _ (Back : SProp 𝓤) (Known : B .Denot → List ℕ → Type 0) (α : ℕ) (γ : GName) where
+  -- what comes back of the callee: Back of what it was given, and Known of its answer r and the list zs in the array
+  module _ (Back : B .Denot → List ℕ → SProp 𝓤) (Known : B .Denot → List ℕ → Type 0) (α : ℕ) (γ : GName) where
     abbrev pub Came : Val → B .Denot → List ℕ → SProp 𝓤
-    Came u r zs = guard 𝓤 (Known r zs × (length zs ≡ N)) (Back ∗ ⟦ tok α ⟧ ∗ ⟦ finally u16 γ zs ⟧ ∗ ⟦ B .own r (u ∷ []) ⟧)
+    Came u r zs = guard 𝓤 (Known r zs × (length zs ≡ N)) (Back r zs ∗ ⟦ tok α ⟧ ∗ ⟦ finally u16 γ zs ⟧ ∗ ⟦ B .own r (u ∷ []) ⟧)
 
     abbrev pub Computed : Val → SProp 𝓤
     Computed u = ex 𝓤 (λ (r : B .Denot). ex 𝓤 (Came u r))
 
   -- Had is what the callee is given; Own is what the writer is given, and Written what it gives
-  module _ (args : ℕ → List Val) (slice : Val) (Q : Val → SProp 𝓤) (ℓ ℓ′ : Lifetime) (Had Back Own : SProp 𝓤) (Known : B .Denot → List ℕ → Type 0)
+  module _ (args : ℕ → List Val) (slice : Val) (Q : Val → SProp 𝓤) (ℓ ℓ′ : Lifetime) (Had Own : SProp 𝓤) (Back : B .Denot → List ℕ → SProp 𝓤)
+      (Known : B .Denot → List ℕ → Type 0)
       (Written : B .Denot → List ℕ → SProp 𝓤)
       (computes : (l α : ℕ) (γ : GName) → Had ∗ ⟦ tok α ⟧ ∗ ⟦ Out N ℓ l α γ ⟧ ⊢ C computer (args l) (λ u. H .⇛ (Computed Back Known α γ u)))
       (writes : (l β : ℕ) (δ : GName) (r : B .Denot) (zs : List ℕ) → Known r zs → Own ∗ ⟦ tok β ⟧ ∗ ⟦ In N ℓ′ l β δ zs ⟧
       ⊢ C writer (slice ∷ sliceVal (l, 0) N ∷ vint w64 (has .count r) ∷ []) (λ v. H .⇛ (guard 𝓤 (Fits-in tyUnit v) (⟦ tok β ⟧ ∗ Written r zs))))
-      (says : (r : B .Denot) (zs : List ℕ) (v : Val) → Known r zs → Is R (has .answer r) (v ∷ []) → Back ∗ Written r zs ⊢ Q v) (l : ℕ) where
+      (says : (r : B .Denot) (zs : List ℕ) (v : Val) → Known r zs → Is R (has .answer r) (v ∷ []) → Back r zs ∗ Written r zs ⊢ Q v) (l : ℕ) where
     abbrev Endsᵤ : Val → SProp 𝓤
     Endsᵤ u = mean 𝓤 H C Q (Ends computer writer N τB τR args slice l u)
 
@@ -106,27 +107,27 @@ module _ {M : Type 1} (𝓤 : URA M) (H : Heap 𝓤) (A : Atoms 𝓤) (W : Given
     if-true false P x h k = absurd h
 
     -- after the writer: the array is room again
-    third : (β : ℕ) (r : B .Denot) (u : Val) (zs : List ℕ) → Known r zs → Is B r (u ∷ []) → ⟦ tok β ⟧ ∗ Written r zs ∗ ⟦ Lender β zs ⟧ ∗ Back ⊢ Endsᵤ u
+    third : (β : ℕ) (r : B .Denot) (u : Val) (zs : List ℕ) → Known r zs → Is B r (u ∷ []) → ⟦ tok β ⟧ ∗ Written r zs ∗ ⟦ Lender β zs ⟧ ∗ Back r zs ⊢ Endsᵤ u
     third β r u zs known is = if-true (hasTy τR (getV (fieldsOf u) 0)) _ _ (fitsR (has .answer r) _ (has .answer-is r u is) .0)
-        (qed W (‵ (tok β) ∷ raw (Written r zs) ∷ ‵ (Lender β zs) ∷ raw Back ∷ []) ∵ updating ! $ lft-end ! tt $ move ! (0 ∷ 2 ∷ []) $
+        (qed W (‵ (tok β) ∷ raw (Written r zs) ∷ ‵ (Lender β zs) ∷ raw (Back r zs) ∷ []) ∵ updating ! $ lft-end ! tt $ move ! (0 ∷ 2 ∷ []) $
         use2 W (soon (‵ (froom (array N) l 0))) (room-again 𝓤 H A W N N-room l (β ∷ []) zs) $ await ! tt $ at-once ! $ frame ! $ move ! (1 ∷ 0 ∷ []) $
         by ! (says r zs (getV (fieldsOf u) 0) known (has .answer-is r u is)))
 
     -- after the callee: the array comes back, and is lent again
-    abbrev After-computing : ℕ → GName → List ℕ → List (Item 𝓤)
-    After-computing α γ zs = ‵ (tok α) ∷ ‵ (flent (α ∷ []) (Held u16 N l 0 γ)) ∷ ‵ (finally u16 γ zs) ∷ raw Back ∷ raw Own ∷ []
+    abbrev After-computing : ℕ → GName → B .Denot → List ℕ → List (Item 𝓤)
+    After-computing α γ r zs = ‵ (tok α) ∷ ‵ (flent (α ∷ []) (Held u16 N l 0 γ)) ∷ ‵ (finally u16 γ zs) ∷ raw (Back r zs) ∷ raw Own ∷ []
 
     second : (α : ℕ) (γ : GName) (r : B .Denot) (u : Val) (zs : List ℕ) → Known r zs → length zs ≡ N → Is B r (u ∷ [])
-        → ⋆ 𝓤 H A (After-computing α γ zs) ⊢ Writesᵤ u (vint w64 (has .count r))
+        → ⋆ 𝓤 H A (After-computing α γ r zs) ⊢ Writesᵤ u (vint w64 (has .count r))
     second α γ r u zs known full is =
-        qed W (After-computing α γ zs) ∵ updating ! $ lft-end ! tt $ lft-new ! tt (λ β. move ! (1 ∷ 2 ∷ 3 ∷ []) $
+        qed W (After-computing α γ r zs) ∵ updating ! $ lft-end ! tt $ lft-new ! tt (λ β. move ! (1 ∷ 2 ∷ 3 ∷ []) $
         use3 W (soon (some (λ (δ : GName). ‵ (In N ℓ′ l β δ zs) ⊛ ‵ (Lender β zs)))) (lends-on 𝓤 H A W N N-room l ℓ′ (α ∷ []) (β ∷ []) γ zs full) $ await ! tt $
         pick ! (λ δ. split ! $
         -- [the shared slice; the lender's part; β's token; what came back; what the writer is given]
         move ! (1 ∷ 3 ∷ []) $ group ! 2 $ move ! (3 ∷ 2 ∷ 1 ∷ []) $ group ! 3 $
         by ! (called-by 𝓤 H A W C fm writer (slice ∷ sliceVal (l, 0) N ∷ vint w64 (has .count r) ∷ []) tyUnit (Own ∗ ⟦ tok β ⟧ ∗ ⟦ In N ℓ′ l β δ zs ⟧)
-        (⟦ Lender β zs ⟧ ∗ Back) (λ v. guard 𝓤 (Fits-in tyUnit v) (⟦ tok β ⟧ ∗ Written r zs)) (λ _. Endsᵤ u) (writes l β δ r zs known) (λ v.
-        qed W (given (Fits-in tyUnit v) (‵ (tok β) ⊛ raw (Written r zs)) ∷ ‵ (Lender β zs) ∷ raw Back ∷ []) ∵
+        (⟦ Lender β zs ⟧ ∗ Back r zs) (λ v. guard 𝓤 (Fits-in tyUnit v) (⟦ tok β ⟧ ∗ Written r zs)) (λ _. Endsᵤ u) (writes l β δ r zs known) (λ v.
+        qed W (given (Fits-in tyUnit v) (‵ (tok β) ⊛ raw (Written r zs)) ∷ ‵ (Lender β zs) ∷ raw (Back r zs) ∷ []) ∵
         learn ! (λ t. check ! t $ split ! $ by ! (third β r u zs known is))))))
 
     first : Had ∗ Own ∗ H .at fullShare (array N) l zero (zeros-val N) ⊢ After 𝓤 H A W C fm computer (args l) τB (λ u. Writesᵤ u (getV (fieldsOf u) 1))
@@ -139,11 +140,11 @@ module _ {M : Type 1} (𝓤 : URA M) (H : Heap 𝓤) (A : Atoms 𝓤) (W : Given
         by ! (called-by 𝓤 H A W C fm computer (args l) τB (Had ∗ ⟦ tok α ⟧ ∗ ⟦ Out N ℓ l α γ ⟧) (Own ∗ A .lent (α ∷ []) (Held u16 N l 0 γ))
         (Computed Back Known α γ) (λ u. Writesᵤ u (getV (fieldsOf u) 1)) (computes l α γ) (λ u.
         qed W (some (λ (r : B .Denot). some (λ (zs : List ℕ). given (Known r zs × (length zs ≡ N))
-        (raw Back ⊛ ‵ (tok α) ⊛ ‵ (finally u16 γ zs) ⊛ ‵ (B .own r (u ∷ []))))) ∷ raw Own ∷ ‵ (flent (α ∷ []) (Held u16 N l 0 γ)) ∷ []) ∵
+        (raw (Back r zs) ⊛ ‵ (tok α) ⊛ ‵ (finally u16 γ zs) ⊛ ‵ (B .own r (u ∷ []))))) ∷ raw Own ∷ ‵ (flent (α ∷ []) (Held u16 N l 0 γ)) ∷ []) ∵
         pick ! (λ r. pick ! (λ zs. learn ! (λ k. split ! $ move ! (1 ∷ []) $ split ! $ move ! (1 ∷ []) $ split ! $ move ! (1 ∷ []) $
         -- [the answer; the last list; α's token; what came back; what the writer is given; the lender's part]
         peeks ! B (Is B) (shows 𝓤 H A B) r (u ∷ []) (λ is. check ! (fitsB r u is) $ drop ! $ move ! (1 ∷ 4 ∷ 0 ∷ 2 ∷ 3 ∷ []) $
-        by ! (subst (λ (n : Val). ⋆ 𝓤 H A (After-computing α γ zs) ⊢ Writesᵤ u n) (sym (has .count-is r u is)) (second α γ r u zs (k .0) (k .1) is))))))))))
+        by ! (subst (λ (n : Val). ⋆ 𝓤 H A (After-computing α γ r zs) ⊢ Writesᵤ u n) (sym (has .count-is r u is)) (second α γ r u zs (k .0) (k .1) is))))))))))
 
     pub left-met : Had ∗ Own ⊢ mean 𝓤 H C Q (Left computer writer N τB τR args slice l)
     left-met = via 𝓤 _ (wandI 𝓤 (Had ∗ Own) (H .at fullShare (array N) l zero (zeros-val N)) _

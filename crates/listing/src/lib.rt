@@ -22,7 +22,8 @@ fn write_rows(recs: &mut [Span], out: &[u16], n: usize)
 // The listing of a short message: 15 numbers for each of its bytes are enough.
 fn list_short(file: &[u8], message: &[u8], answer: usize, recs: &mut [Span]) -> Answer
     requires { ⌜ length (now message) ≤ 256 ⌝ }
-    ensures { λ r. ⌜ (r ≡ listing (now (file .entry)) (now (message .entry)) answer (now (recs .entry))) × (now (recs .exit) ≡ after (now (file .entry)) (now (message .entry)) answer (now (recs .entry))) ⌝ }
+    ensures { λ r. ⌜ (r ≡ listing (now (file .entry)) (now (message .entry)) answer (now (recs .entry)))
+        × (now (recs .exit) ≡ after (now (file .entry)) (now (message .entry)) answer (now (recs .entry))) ⌝ }
 {
     let mut out = [0u16; 3840];
     let n = recs.len();
@@ -33,7 +34,8 @@ fn list_short(file: &[u8], message: &[u8], answer: usize, recs: &mut [Span]) -> 
 
 // The listing of any message.
 fn list_long(file: &[u8], message: &[u8], answer: usize, recs: &mut [Span]) -> Answer
-    ensures { λ r. ⌜ (r ≡ listing (now (file .entry)) (now (message .entry)) answer (now (recs .entry))) × (now (recs .exit) ≡ after (now (file .entry)) (now (message .entry)) answer (now (recs .entry))) ⌝ }
+    ensures { λ r. ⌜ (r ≡ listing (now (file .entry)) (now (message .entry)) answer (now (recs .entry)))
+        × (now (recs .exit) ≡ after (now (file .entry)) (now (message .entry)) answer (now (recs .entry))) ⌝ }
 {
     let mut out = [0u16; 30720];
     let n = recs.len();
@@ -44,7 +46,8 @@ fn list_long(file: &[u8], message: &[u8], answer: usize, recs: &mut [Span]) -> A
 
 // Listing: sign file, message, answer number from 0, and the lent slice.
 pub fn list(file: &[u8], message: &[u8], answer: usize, recs: &mut [Span]) -> Answer
-    ensures { λ r. ⌜ (r ≡ listing (now (file .entry)) (now (message .entry)) answer (now (recs .entry))) × (now (recs .exit) ≡ after (now (file .entry)) (now (message .entry)) answer (now (recs .entry))) ⌝ }
+    ensures { λ r. ⌜ (r ≡ listing (now (file .entry)) (now (message .entry)) answer (now (recs .entry)))
+        × (now (recs .exit) ≡ after (now (file .entry)) (now (message .entry)) answer (now (recs .entry))) ⌝ }
 {
     if message.len() <= 256 {
         return list_short(file, message, answer, recs);

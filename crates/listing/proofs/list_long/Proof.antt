@@ -8,12 +8,12 @@ use contract.Running.{givenOf, tables, tablesOf}
 use denote.Ref.{now}
 use denote.Triple.Spec.{tripleOf}
 use denote.Triple.Table.{entered, cited}
+use Rattle.listing.proofs.write_rows as write
 use Rattle.listing.proofs.write_rows.Symbol as write-def
 use Rattle.listing.proofs.write_rows.Met as write-thm
 use Rattle.answer.proofs.counted as counted
 use Rattle.answer.proofs.counted.Symbol as counted-def
 use Rattle.answer.proofs.counted.Met as counted-thm
-use Rattle.listing.proofs.Writer.{Writing}
 use Rattle.listing.proofs.Counted.{Asks, lists}
 use Rattle.listing.proofs.list_long.Key as key
 use Rattle.listing.proofs.list_long as f
@@ -29,5 +29,6 @@ list-long-spec 𝓤 H 𝓜 𝓖 𝓡 =
     (λ κs a. emp 𝓤) (λ κs a. factI 𝓤 (Asks (now (a .1 .0)) 30720) (emp 𝓤) (λ h. omega arith))
     (cited 𝓤 H (tripleOf 𝓤 H (𝓖 .A) counted.signature (counted.spec 𝓤 H (𝓖 .A) (𝓜 .mem) (𝓡 .run)))
     𝓜 𝓡 code.env counted-def.name counted-def.routine code.calls-answer·counted (counted-thm.met 𝓤 H 𝓜 𝓖 𝓡))
-    (cited 𝓤 H (Writing 𝓤 H (𝓖 .A) (𝓜 .mem) (𝓡 .run)) 𝓜 𝓡 code.env write-def.name write-def.routine code.calls-listing·write-rows (write-thm.met 𝓤 H 𝓜 𝓖 𝓡))
+    (cited 𝓤 H (tripleOf 𝓤 H (𝓖 .A) write.signature (write.spec 𝓤 H (𝓖 .A) (𝓜 .mem) (𝓡 .run)))
+    𝓜 𝓡 code.env write-def.name write-def.routine code.calls-listing·write-rows (write-thm.met 𝓤 H 𝓜 𝓖 𝓡))
     code.function (λ bs. bs .1 .1 .1 .1 .1 .0) (λ κs a fit. fit) (λ κs a bs. refl))
