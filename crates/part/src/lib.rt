@@ -26,7 +26,7 @@ pub fn letter_at(s: &[u8], at: usize) -> u8
 }
 
 // Where the first byte that is sep stands, in either letter case, or the length.
-fn find(s: &[u8], sep: u8) -> usize
+pub fn find(s: &[u8], sep: u8) -> usize
     ensures { λ r. ⌜ r ≡ indexOf sep (now (s .entry)) ⌝ }
 {
     let mut i = 0;

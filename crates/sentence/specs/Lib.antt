@@ -1,0 +1,5 @@
+pub mod Words
+pub mod Sentence
+pub mod Recovered
+pub mod Texts
+pub mod Examples
