@@ -8,6 +8,9 @@ use Rattle.kambelohi.specs.declared.ReadAnswer.{ReadAnswer}
 use Rattle.layout.specs.declared.Answer.{Answer}
 use Rattle.layout.specs.declared.Answer.the-variants.{On, Off, End as LastEnd, Refused as RefusedBy}
 use Rattle.kambelohi.specs.declared.ListAnswer.{ListAnswer}
+use Rattle.sentence.specs.declared.Told.{Told}
+use Rattle.sentence.specs.declared.Told.the-variants.{Length, Refused as RefusedTo}
+use Rattle.kambelohi.specs.declared.SentenceAnswer.{SentenceAnswer}
 
 abbrev pub noNumbers : List ℕ
 noNumbers = 0 ∷ 0 ∷ 0 ∷ 0 ∷ 0 ∷ 0 ∷ 0 ∷ 0 ∷ []
@@ -27,3 +30,8 @@ listAnswer (On d n) = plainAnswer 1 d n
 listAnswer (Off d) = plainAnswer 2 d 0
 listAnswer (LastEnd n) = plainAnswer 3 0 n
 listAnswer (RefusedBy f) = record { kind = 4; duration = 0; count = 0; number = f .number; start = f .start; length = f .length; detail = f .detail }
+
+-- a sentence is 1, a refusal 2
+abbrev pub sentenceAnswer : Told → SentenceAnswer
+sentenceAnswer (Length n) = record { kind = 1; count = n; number = 0; start = 0; length = 0; detail = 0 }
+sentenceAnswer (RefusedTo f) = record { kind = 2; count = 0; number = f .number; start = f .start; length = f .length; detail = f .detail }

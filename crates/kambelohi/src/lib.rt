@@ -1,11 +1,15 @@
 // What C and Rust link: the calls, with structs of numbers for answers. include/kambelohi.h says the same in C.
 ghost use mathlib.Core.Path.{_≡_};
 ghost use Rattle.layout.specs.Listing.{listing as listingOf, after as afterOf};
-ghost use Rattle.kambelohi.specs.Exports.{readAnswer, plainAnswer, listAnswer};
+ghost use Rattle.kambelohi.specs.Exports.{readAnswer, plainAnswer, listAnswer, sentenceAnswer};
 ghost use Rattle.reading.specs.Reading.{reading as readingOf};
+ghost use Rattle.refusal.specs.Refusals.{refusal as refusalOf};
+ghost use Rattle.sentence.specs.Sentence.{telling as tellingOf, after as sentenceAfter};
 use layout::Answer;
 use layout::Span;
 use reading::Reading;
+use refusal::Refusal;
+use sentence::Told;
 
 // kind: 0 a slice with its value, 1 the end of the message, 2 a refusal. Of a slice: start, length, and the value's code and eight numbers.
 // Of a refusal: number, start, length and detail. What a kind does not use is 0.
@@ -126,4 +130,59 @@ pub extern "C" fn kambelohi_list(
         × (now (recs .exit) ≡ afterOf (now (file .entry)) (now (message .entry)) answer (now (recs .entry))) ⌝ }
 {
     list_answer(listing::list(file, message, answer, recs))
+}
+
+// An answer of kambelohi_sentence. kind: 1 the sentence is written, 2 a refusal. Of a sentence: how many bytes; of a refusal: number, start,
+// length and detail. What a kind does not use is 0.
+#[repr(C)]
+pub struct SentenceAnswer {
+    pub kind: u16,
+    pub count: u16,
+    pub number: u16,
+    pub start: u16,
+    pub length: u16,
+    pub detail: u16,
+}
+
+fn sentence_answer(t: Told) -> SentenceAnswer
+    ensures { λ r. ⌜ r ≡ sentenceAnswer t ⌝ }
+{
+    match t {
+        Told::Length(n) => SentenceAnswer {
+            kind: 1,
+            count: n,
+            number: 0,
+            start: 0,
+            length: 0,
+            detail: 0,
+        },
+        Told::Refused(f) => SentenceAnswer {
+            kind: 2,
+            count: 0,
+            number: base::wide16(f.number),
+            start: f.start,
+            length: f.length,
+            detail: f.detail,
+        },
+    }
+}
+
+// The refusal with these numbers as a sentence in the lent buffer.
+#[no_mangle]
+pub extern "C" fn kambelohi_sentence(
+    number: u8,
+    start: u16,
+    length: u16,
+    detail: u16,
+    buffer: &mut [u8],
+) -> SentenceAnswer
+    ensures { λ r. ⌜ (r ≡ sentenceAnswer (tellingOf (refusalOf number start length detail) (now (buffer .entry)))) × (now (buffer .exit) ≡ sentenceAfter (refusalOf number start length detail) (now (buffer .entry))) ⌝ }
+{
+    let r = Refusal {
+        number,
+        start,
+        length,
+        detail,
+    };
+    sentence_answer(sentence::sentence(r, buffer))
 }
