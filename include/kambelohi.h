@@ -1,19 +1,22 @@
 /*
  * Kambelohi: the message core of lamp boards.
  *
- * Two calls: kambelohi_read says what stands at an offset of a MULTI message, kambelohi_list where the text of its pages stands
- * on a sign. Link target/staticlib/libkambelohi.a (x86-64 Linux), which `rt staticlib kambelohi` writes. Of the C library it
- * needs memcpy and memset, and nothing else.
+ * Three calls: kambelohi_read says what stands at an offset of a MULTI message, kambelohi_list where the text of its pages
+ * stands on a sign, and kambelohi_sentence writes a refusal as an English sentence. Link target/staticlib/libkambelohi.a (x86-64
+ * Linux), which `rt staticlib kambelohi` writes. Of the C library it needs memcpy and memset, and nothing else.
  *
- * What is said here of answers and records follows from contracts that are proved of the code (crates/kambelohi/src/lib.rt), for
- * any bytes, any lengths, and any offset or answer number. A call always returns, and keeps nothing.
+ * What is said here of answers, records and sentences follows from contracts that are proved of the code
+ * (crates/kambelohi/src/lib.rt), for any bytes, any lengths, any offset or answer number, and any numbers of a refusal. A call
+ * always returns, and keeps nothing.
  *
  * What the proofs take for granted, and no call can check, is that every pointer
  * - is not null, even where its length is 0;
  * - points to memory that may be read for the whole of its length and has been set, to whatever values, and that nobody else
  *   writes before the call returns;
  * - if it is that of the lent records: points to span_count of them, may also be written, is aligned as kambelohi_span asks
- *   (2 bytes), and shares no byte with sign file or message, and nobody else reads the records before the call returns.
+ *   (2 bytes), and shares no byte with sign file or message, and nobody else reads the records before the call returns;
+ * - if it is that of a sentence's buffer: points to buffer_len bytes that may also be written, and that nobody else reads before
+ *   the call returns.
  *
  * Stack: a call takes at most the bytes below, arguments and return address included, in the archive for x86-64 as it is built
  * today; tests/stack measures them. A short message takes as much as a long one. Not counted: what a thread takes to start, what
@@ -31,13 +34,16 @@ extern "C" {
 #endif
 
 /* Bytes of stack that a call takes at most. */
-enum { KAMBELOHI_READ_STACK = 512, KAMBELOHI_LIST_STACK = 155648 };
+enum { KAMBELOHI_READ_STACK = 512, KAMBELOHI_LIST_STACK = 155648, KAMBELOHI_SENTENCE_STACK = 704 };
 
-/* A longer sign file is refused with 1, a longer message with 2, a lent slice of fewer records with 4. No page has more of them. */
-enum { KAMBELOHI_SIGN_FILE_BYTES = 65535, KAMBELOHI_MESSAGE_BYTES = 2048, KAMBELOHI_RECORDS = 1400 };
+/* A longer sign file is refused with 1, a longer message with 2. */
+enum { KAMBELOHI_SIGN_FILE_BYTES = 65535, KAMBELOHI_MESSAGE_BYTES = 2048 };
+
+/* A lent slice of fewer records is refused with 4, a buffer of fewer bytes with 16. No page, and no sentence, has more of them. */
+enum { KAMBELOHI_RECORDS = 1400, KAMBELOHI_SENTENCE_BYTES = 96 };
 
 /*
- * The refusals of both calls: number, start, length and detail. What is not said of a refusal is 0.
+ * The refusals of all calls: number, start, length and detail. What is not said of a refusal is 0.
  *
  * kambelohi_read has 2 to 7, in this order: 2 and 3 are of the whole message, 4 of the offset, 5 to 7 of the slice there.
  *
@@ -45,28 +51,39 @@ enum { KAMBELOHI_SIGN_FILE_BYTES = 65535, KAMBELOHI_MESSAGE_BYTES = 2048, KAMBEL
  * up to and with the page's [np]; then pass after pass (a pass ends at [tr], [np] or the end), 6 and 8 by position, 9, then
  * 10 to 14 span by span, x before y, and 15.
  *
+ * kambelohi_sentence has 16.
+ *
  * Place of the slice: start and length of the text or tag in the message. Place of the span: those of its record.
+ *
+ * In quotation marks: the words that kambelohi_sentence has for the number. All other numbers are "unknown".
  */
 enum {
-    KAMBELOHI_SIGN_FILE = 1,        /* the sign file breaks a rule; start: the offset in it of the first record that fails,
-                                       0 if the file is too long or empty */
-    KAMBELOHI_TOO_LONG = 2,         /* the message is longer than KAMBELOHI_MESSAGE_BYTES */
-    KAMBELOHI_ILL_FORMED = 3,       /* the message is not well-formed UTF-8 */
-    KAMBELOHI_BAD_CALL = 4,         /* kambelohi_list: fewer than KAMBELOHI_RECORDS records are lent;
-                                       kambelohi_read: the offset is past the message or inside a character */
-    KAMBELOHI_BAD_TAG = 5,          /* no known tag, or a stray bracket; kambelohi_list: or a tag that the sign does not
-                                       support, or field 0; place of the slice */
-    KAMBELOHI_BAD_PARAMETER = 6,    /* a bad parameter; kambelohi_list: also one that this sign cannot follow, as a [tr] that
-                                       is not inside it; place of the slice */
-    KAMBELOHI_BAD_CODE = 7,         /* a text with a code point outside 1 to 255; place of the slice */
-    KAMBELOHI_TOO_MANY = 8,         /* the 256th line end or span since its number restarted; place of the slice */
-    KAMBELOHI_GOES_BACK = 9,        /* a justification that goes back; place of the span */
-    KAMBELOHI_NO_FONT = 10,         /* font not defined; detail: its number; place of the span */
-    KAMBELOHI_FONT_VERSION = 11,    /* the font's version id differs; place of the span */
-    KAMBELOHI_NO_CHARACTER = 12,    /* character not defined; detail: its code; place of the span */
-    KAMBELOHI_TOO_BIG = 13,         /* text exceeds the rectangle's width or height; place of the span */
-    KAMBELOHI_TOO_LOW = 14,         /* the rounded baseline is less than the font's height; place of the span */
-    KAMBELOHI_TOO_MANY_PASSES = 15  /* the page's 51st pass: 50 [tr] on a page */
+    KAMBELOHI_SIGN_FILE = 1,         /* "sign file is damaged, load it again"; it breaks a rule; start: the offset in it of the
+                                        first record that fails, 0 if the file is too long or empty */
+    KAMBELOHI_TOO_LONG = 2,          /* "message is over 2,048 bytes, shorten it" */
+    KAMBELOHI_ILL_FORMED = 3,        /* "message is not UTF-8, type it again"; it is not well-formed */
+    KAMBELOHI_BAD_CALL = 4,          /* "room is too small, or offset is wrong"; kambelohi_list: fewer than KAMBELOHI_RECORDS
+                                        records are lent; kambelohi_read: the offset is past the message or inside a
+                                        character */
+    KAMBELOHI_BAD_TAG = 5,           /* "tag is unknown, or not for this board"; no known tag, or a stray bracket;
+                                        kambelohi_list: or a tag that the sign does not support, or field 0; place of the
+                                        slice */
+    KAMBELOHI_BAD_PARAMETER = 6,     /* "value in this tag cannot be used here"; a bad parameter; kambelohi_list: also one that
+                                        this sign cannot follow, as a [tr] that is not inside it; place of the slice */
+    KAMBELOHI_BAD_CODE = 7,          /* "text has a character no board can show"; a code point outside 1 to 255; place of the
+                                        slice */
+    KAMBELOHI_TOO_MANY = 8,          /* "too many lines, or texts in one line"; the 256th line end or span since its number
+                                        restarted; place of the slice */
+    KAMBELOHI_GOES_BACK = 9,         /* "justification goes back, change order"; place of the span */
+    KAMBELOHI_NO_FONT = 10,          /* "font is not on this board"; detail: its number; place of the span */
+    KAMBELOHI_FONT_VERSION = 11,     /* "font has another version on this board"; its version id differs; place of the span */
+    KAMBELOHI_NO_CHARACTER = 12,     /* "character is not in this font"; detail: its code; place of the span */
+    KAMBELOHI_TOO_BIG = 13,          /* "text does not fit its rectangle"; its width or height; place of the span */
+    KAMBELOHI_TOO_LOW = 14,          /* "font is too tall for this line grid"; the rounded baseline is less than the font's
+                                        height; place of the span */
+    KAMBELOHI_TOO_MANY_PASSES = 15,  /* "too many text rectangles on one page"; the page's 51st pass: 50 [tr] on a page */
+    KAMBELOHI_SHORT_BUFFER = 16      /* "room for the sentence is too small"; kambelohi_sentence: the buffer has fewer than
+                                        KAMBELOHI_SENTENCE_BYTES bytes */
 };
 
 /* ---- reading */
@@ -181,6 +198,39 @@ typedef struct {
  */
 kambelohi_list_answer kambelohi_list(const uint8_t *file, size_t file_len, const uint8_t *msg, size_t msg_len, size_t answer,
                                      kambelohi_span *spans, size_t span_count);
+
+/* ---- the refusal as a sentence */
+
+/* Kinds of an answer of kambelohi_sentence. */
+enum {
+    KAMBELOHI_WRITTEN = 1,          /* the sentence is written; count is its length in bytes */
+    KAMBELOHI_SENTENCE_REFUSED = 2  /* number, start, length and detail of a refusal */
+};
+
+/* What kambelohi_sentence answers. What a kind does not use is 0. */
+typedef struct {
+    uint16_t kind;
+    uint16_t count;
+    uint16_t number;
+    uint16_t start;
+    uint16_t length;
+    uint16_t detail;
+} kambelohi_sentence_answer;
+
+/*
+ * Writes the refusal with these numbers to the first bytes of buffer, as a sentence:
+ *
+ *     Refusal 13 at byte 8, length 2, detail 0: text does not fit its rectangle.
+ *
+ * Decimals have no leading zeros, the words have at most 40 bytes, all bytes are printable ASCII, and the only full stop is the
+ * last; there is no zero byte at the end. The words of two numbers in use differ. From the sentence alone all four numbers can be
+ * read back. The bytes past it stay as they were.
+ *
+ * A buffer of fewer than KAMBELOHI_SENTENCE_BYTES bytes is refused with 16, however short the sentence would be, and stays as it
+ * was. Any numbers are taken, whether or not a call can answer them.
+ */
+kambelohi_sentence_answer kambelohi_sentence(uint8_t number, uint16_t start, uint16_t length, uint16_t detail, uint8_t *buffer,
+                                             size_t buffer_len);
 
 #ifdef __cplusplus
 }

@@ -1,9 +1,9 @@
 /*
  * include/kambelohi.h as a C program has it, and as a C++ program: the sizes and offsets of its structs (asserted while it is compiled),
- * and its two calls. Its argument is boards/p/sign.bin. It ends with 1 where anything differs.
+ * and its calls. Its argument is boards/p/sign.bin. It ends with 1 where anything differs.
  *
- * Sign file, message and records stand each before a page that nobody may touch, so a byte read or written past a length ends the program.
- * The records are patterned before each call, and those that the answer does not count must be as they were.
+ * Sign file, message, records and buffer stand each before a page that nobody may touch, so a byte read or written past a length ends the
+ * program. Records and buffer are patterned before each call, and what the answer does not count must be as it was.
  */
 #define _DEFAULT_SOURCE
 #include "kambelohi.h"
@@ -56,6 +56,14 @@ FIELD(kambelohi_list_answer, start, 8, 2);
 FIELD(kambelohi_list_answer, length, 10, 2);
 FIELD(kambelohi_list_answer, detail, 12, 2);
 
+static_assert(sizeof(kambelohi_sentence_answer) == 12, "size of kambelohi_sentence_answer");
+FIELD(kambelohi_sentence_answer, kind, 0, 2);
+FIELD(kambelohi_sentence_answer, count, 2, 2);
+FIELD(kambelohi_sentence_answer, number, 4, 2);
+FIELD(kambelohi_sentence_answer, start, 6, 2);
+FIELD(kambelohi_sentence_answer, length, 8, 2);
+FIELD(kambelohi_sentence_answer, detail, 10, 2);
+
 /* a span is aligned as the header says */
 typedef struct {
     char before;
@@ -81,7 +89,7 @@ static uint8_t *fence(void) {
     return (uint8_t *)map + ROOM;
 }
 
-static uint8_t *file_end, *msg_end, *spans_end;
+static uint8_t *file_end, *msg_end, *spans_end, *buffer_end;
 
 /* Bytes, lent so that they end where their memory ends. */
 typedef struct {
@@ -396,6 +404,52 @@ static void read_refusals(void) {
     reads("2,048 bytes", lend_times(2048, "A"), 0, "0 0 0 2048 0 21: 0 2048 0 0 0 0 0 0;");
 }
 
+/* ---- the refusal as a sentence */
+
+/* One call on a patterned buffer of size bytes: the answer and what was written; all other bytes are as they were. */
+static void tells(const char *name, uint8_t number, uint16_t start, uint16_t length, uint16_t detail, size_t size, const char *want) {
+    static uint8_t pattern[4096];
+    static unsigned turn = 0;
+    uint8_t *at = buffer_end - size;
+    for (size_t i = 0; i < size; i++) {
+        pattern[i] = (uint8_t)(i * 29 + turn);
+    }
+    turn += 11;
+    memcpy(at, pattern, size);
+    kambelohi_sentence_answer a = kambelohi_sentence(number, start, length, detail, at, size);
+    size_t written = a.kind == KAMBELOHI_WRITTEN ? a.count : 0;
+    must(name, "no more bytes than are lent", written <= size);
+    must(name, "bytes past the sentence are as they were", memcmp(at + written, pattern + written, size - written) == 0);
+    say("%d %d %d %d %d %d;%.*s", a.kind, a.count, a.number, a.start, a.length, a.detail, (int)written, (const char *)at);
+    must_be(name, want);
+}
+
+/* A sentence in the smallest buffer, in one a byte longer and in a large one; smaller ones are refused, whatever the sentence. */
+static void told(uint8_t number, uint16_t start, uint16_t length, uint16_t detail, const char *sentence) {
+    const size_t enough[] = {KAMBELOHI_SENTENCE_BYTES, KAMBELOHI_SENTENCE_BYTES + 1, 4096};
+    const size_t few[] = {KAMBELOHI_SENTENCE_BYTES - 1, 1, 0};
+    char want[200];
+    snprintf(want, sizeof want, "%d %zu 0 0 0 0;%s", KAMBELOHI_WRITTEN, strlen(sentence), sentence);
+    for (size_t i = 0; i < sizeof enough / sizeof enough[0]; i++) {
+        tells(sentence, number, start, length, detail, enough[i], want);
+    }
+    snprintf(want, sizeof want, "%d 0 %d 0 0 0;", KAMBELOHI_SENTENCE_REFUSED, KAMBELOHI_SHORT_BUFFER);
+    for (size_t i = 0; i < sizeof few / sizeof few[0]; i++) {
+        tells("a short buffer", number, start, length, detail, few[i], want);
+    }
+}
+
+static void sentences(void) {
+    told(KAMBELOHI_TOO_BIG, 8, 2, 0, "Refusal 13 at byte 8, length 2, detail 0: text does not fit its rectangle.");
+    told(KAMBELOHI_SHORT_BUFFER, 0, 0, 0, "Refusal 16 at byte 0, length 0, detail 0: room for the sentence is too small.");
+    told(KAMBELOHI_TOO_LONG, 65535, 65535, 65535,
+         "Refusal 2 at byte 65535, length 65535, detail 65535: message is over 2,048 bytes, shorten it.");
+    told(0, 0, 0, 0, "Refusal 0 at byte 0, length 0, detail 0: unknown.");
+    told(255, 65535, 65535, 65535, "Refusal 255 at byte 65535, length 65535, detail 65535: unknown.");
+    told(200, 9, 99, 999, "Refusal 200 at byte 9, length 99, detail 999: unknown.");
+    told(100, 10, 100, 10000, "Refusal 100 at byte 10, length 100, detail 10000: unknown.");
+}
+
 int main(int argc, char **argv) {
     static uint8_t sign[ROOM];
     FILE *in = argc == 2 ? fopen(argv[1], "rb") : NULL;
@@ -408,12 +462,14 @@ int main(int argc, char **argv) {
     file_end = fence();
     msg_end = fence();
     spans_end = fence();
+    buffer_end = fence();
     worked_boards(lend(file_end, sign, len));
     list_refusals(lend(file_end, sign, len));
     short_slices(lend(file_end, sign, len));
     values();
     slices();
     read_refusals();
+    sentences();
     printf("header: %d checks%s\n", checks, failed ? ", and some failed" : "");
     return failed;
 }

@@ -8,7 +8,8 @@
  *
  * An L line: every answer of the listing up to the end or a refusal, the two after it, the last number there is, and a slice of too few
  * records. A V line, and the message of an L line: the reading call at every offset, past the end, and at the last number there is.
- * Every refusal of each call must have come.
+ * Before the first line, as line 0: the sentences of all numbers with places of one to five digits, and a buffer of too few bytes. Every
+ * refusal of each call must have come.
  */
 #define _GNU_SOURCE
 #include "kambelohi.h"
@@ -33,11 +34,12 @@ typedef struct {
     size_t said;
     size_t most;
     size_t calls;
-    size_t refusals[16];
+    size_t refusals[32];
 } measure;
 
 static measure reading = {"kambelohi_read", KAMBELOHI_READ_STACK, 0, 0, {0}};
 static measure listing = {"kambelohi_list", KAMBELOHI_LIST_STACK, 0, 0, {0}};
+static measure telling = {"kambelohi_sentence", KAMBELOHI_SENTENCE_STACK, 0, 0, {0}};
 
 /* The case at hand. */
 static size_t line_number;
@@ -60,7 +62,7 @@ static void overrun(int sig) {
     _exit(write(STDERR_FILENO, overrun_text, strlen(overrun_text)) < 0 ? 3 : 1);
 }
 
-/* Gives stack away until SAID bytes are left, and at most LITTLE more. What is called after it must be one of the two calls. */
+/* Gives stack away until SAID bytes are left, and at most LITTLE more. What is called after it must be one of the calls. */
 #define GIVE_AWAY(SAID)                                                                \
     do {                                                                               \
         unsigned char *here = (unsigned char *)alloca(16);                             \
@@ -72,7 +74,7 @@ static __attribute__((noinline)) void read_all(void) {
     for (size_t n = 0; n <= msg_len + 2; n++) {
         kambelohi_read_answer a = kambelohi_read(msg, msg_len, n <= msg_len + 1 ? n : SIZE_MAX);
         reading.calls++;
-        reading.refusals[a.number % 16]++;
+        reading.refusals[a.number % 32]++;
     }
 }
 
@@ -85,8 +87,22 @@ static __attribute__((noinline)) void list_all(void) {
         size_t count = past == 4 ? KAMBELOHI_RECORDS - 1 : KAMBELOHI_RECORDS;
         kambelohi_list_answer a = kambelohi_list(file, file_len, msg, msg_len, answer, spans, count);
         listing.calls++;
-        listing.refusals[a.number % 16]++;
+        listing.refusals[a.number % 32]++;
         past += past > 0 || a.kind == KAMBELOHI_LAST || a.kind == KAMBELOHI_LIST_REFUSED;
+    }
+}
+
+static __attribute__((noinline)) void tell_all(void) {
+    static const uint16_t places[] = {0, 9, 10, 99, 100, 999, 1000, 9999, 10000, 65535};
+    static uint8_t buffer[KAMBELOHI_SENTENCE_BYTES];
+    GIVE_AWAY(KAMBELOHI_SENTENCE_STACK);
+    for (size_t n = 0; n < 256 * 10; n++) {
+        uint16_t place = places[n % 10];
+        for (size_t few = 0; few < 2; few++) {
+            kambelohi_sentence_answer a = kambelohi_sentence((uint8_t)(n / 10), place, place, place, buffer, sizeof buffer - few);
+            telling.calls++;
+            telling.refusals[a.number % 32]++;
+        }
     }
 }
 
@@ -102,6 +118,8 @@ static void *run(void *all) {
     }
     if (all == &listing) {
         list_all();
+    } else if (all == &telling) {
+        tell_all();
     } else {
         read_all();
     }
@@ -196,6 +214,7 @@ int main(void) {
     }
     floor_at = map + PAGE;
     file = decode("-", &file_len);
+    take(&telling);
     while ((n = getline(&text, &size, stdin)) > 0) {
         line_number++;
         text[n - 1] = '\0';
@@ -203,5 +222,5 @@ int main(void) {
     }
     free(text);
     free(file);
-    return judge(&reading, 2, 7) | judge(&listing, 1, 15);
+    return judge(&reading, 2, 7) | judge(&listing, 1, 15) | judge(&telling, 16, 16);
 }
