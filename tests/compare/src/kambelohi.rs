@@ -74,3 +74,47 @@ pub fn list(file: &[u8], msg: &[u8], answer: usize, spans: &mut [Span]) -> ListA
         )
     }
 }
+
+/// An answer of the sentence call
+#[repr(C)]
+#[derive(Clone, Copy, Debug, Default, Eq, PartialEq)]
+pub struct SentenceAnswer {
+    pub kind: u16,
+    pub count: u16,
+    pub number: u16,
+    pub start: u16,
+    pub length: u16,
+    pub detail: u16,
+}
+
+unsafe extern "C" {
+    fn kambelohi_sentence(
+        number: u8,
+        start: u16,
+        length: u16,
+        detail: u16,
+        buffer: *mut u8,
+        buffer_len: usize,
+    ) -> SentenceAnswer;
+}
+
+/// Write a refusal as a sentence into a buffer
+pub fn sentence(
+    number: u8,
+    start: u16,
+    length: u16,
+    detail: u16,
+    buffer: &mut [u8],
+) -> SentenceAnswer {
+    // The call takes any numbers and any buffer.
+    unsafe {
+        kambelohi_sentence(
+            number,
+            start,
+            length,
+            detail,
+            buffer.as_mut_ptr(),
+            buffer.len(),
+        )
+    }
+}

@@ -10,9 +10,13 @@
 //! a run without a V or L line. `--progress` tells how far the run is. With
 //! `--every` the run ends with 1 where a value, a refusal or a stop of the Rust
 //! that can come does not.
+//!
+//! With `--sentences` standard input has no streams but sentences (see
+//! sentences.rs), which are compared with those of `kambelohi_sentence`.
 
 mod kambelohi;
 mod listings;
+mod sentences;
 mod stops;
 
 use kambelohi::{ReadAnswer, Span, read};
@@ -280,14 +284,28 @@ impl Run {
     }
 }
 
-fn main() {
+/// Compare the streams, or the sentences, of standard input
+fn compare_all() -> Result<(), Fault> {
     let wants = |name: &str| std::env::args().any(|a| a == name);
+    if wants("--sentences") {
+        return sentences::compare();
+    }
     let mut run = Run::default();
-    let fault = run.lines(wants("--progress"));
+    let done = run.lines(wants("--progress"));
     if wants("--progress") {
         eprintln!();
     }
-    let status = match fault {
+    done?;
+    run.print();
+    let missing = run.missing();
+    if wants("--every") && !missing.is_empty() {
+        return Err(Fault::Differs(format!("none has {}", missing.join(", "))));
+    }
+    Ok(())
+}
+
+fn main() {
+    let status = match compare_all() {
         Err(Fault::Stream(e)) => {
             eprintln!("compare: {e}");
             2
@@ -296,16 +314,7 @@ fn main() {
             eprintln!("compare: {e}");
             1
         }
-        Ok(()) => {
-            run.print();
-            let missing = run.missing();
-            if wants("--every") && !missing.is_empty() {
-                eprintln!("compare: none has {}", missing.join(", "));
-                1
-            } else {
-                0
-            }
-        }
+        Ok(()) => 0,
     };
     std::process::exit(status);
 }
