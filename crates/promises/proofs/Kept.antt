@@ -5,6 +5,7 @@ use Rattle.layout.specs.Boards.{boards}
 use Rattle.layout.proofs.Checks.{answer-on}
 use Rattle.layout.proofs.Calls.{demand3}
 use Rattle.layout.proofs.Bounds.{bounded}
+use Rattle.sentence.proofs.Recovers.{sentenced, worded}
 use Rattle.promises.specs.Promises.{Promises}
 
 pub promises : Promises
@@ -16,4 +17,6 @@ promises =
       demand-3 = demand3;
       bounds = bounded;
       worked-boards = boards;
+      sentences = sentenced;
+      words = worded;
     }

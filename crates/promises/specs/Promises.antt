@@ -1,6 +1,6 @@
 -- What is promised of the product, in one reading: each line is a theorem, for every sign file, every message and every lent slice. All of it speaks of
 -- `listing` and `after`, which by the contract of `list` (crates/listing/src/lib.rt) are the answer of the call that runs and the slice that it leaves.
-use Prim.Native.Nat.{ℕ}
+use Prim.Native.Nat.{ℕ, _<_}
 use mathlib.Core.Path.{_≡_}
 use mathlib.Core.List.{List}
 use Rattle.token.specs.Token.{joined, slices}
@@ -12,6 +12,7 @@ use Rattle.layout.specs.Listing.{listing, after}
 use Rattle.layout.specs.Demand.{Whole, Demand3}
 use Rattle.layout.specs.Bounds.{Bounded}
 use Rattle.layout.specs.Boards.{Boards}
+use Rattle.sentence.specs.Recovered.{Sentenced, Worded}
 
 pub record Promises : Type 0 where
   -- no byte of a message is lost: its slices, joined, are the message
@@ -30,3 +31,8 @@ pub record Promises : Type 0 where
   pub bounds : (file msg : List ℕ) → Bounded file msg
   -- document 01's worked boards, and those that catch other readings of its rules
   pub worked-boards : Boards
+  -- A1, of a refusal whose "number has 8 bits, the others 16": its sentence has at most 96 bytes, is ASCII "ended by the only full stop", and "From the
+  -- sentence alone all four can be recovered"
+  pub sentences : (r : Refusal) → r .number < 256 → r .start < 65536 → r .length < 65536 → r .detail < 65536 → Sentenced r
+  -- A1: "at most 40 ASCII bytes of words, different for each number in use and "unknown" for others"
+  pub words : Worded
