@@ -43,7 +43,11 @@ module _ {at : ℕ} {text lent : List ℕ} where
   pub put-end : {now : List ℕ} {i : ℕ} → Writing at text lent now i → length text ≤ i → Put at text lent now (at + length text)
   put-end {now} {i} w h =
       let e : i ≡ length text = omega (arith, w .within) in
-      record { ends = refl; bytes = ap (sets now (at + i)) (sym (drop-length text)) ∙ ap (λ (k : ℕ). sets now (at + i) (drop k text)) (sym e) ∙ w .rest; size = w .size }
+      record {
+        ends = refl;
+        bytes = ap (sets now (at + i)) (sym (drop-length text)) ∙ ap (λ (k : ℕ). sets now (at + i) (drop k text)) (sym e) ∙ w .rest;
+        size = w .size;
+      }
 
 -- ---- one text after another
 

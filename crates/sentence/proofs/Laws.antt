@@ -49,7 +49,8 @@ sets-last [] l at d = ap (λ (k : ℕ). set l k d) (zeroed at)
     zeroed k = omega arith
 sets-last (x ∷ xs) l at d =
     sets-last xs (set l at x) (suc at) d
-    ∙ ap (λ (m : List ℕ). sets m (suc at) xs) (set-comm l at (suc at + length xs) x d (λ e. absurd (omega (arith, e))) ∙ ap (λ (k : ℕ). set (set l k d) at x) (moved at (length xs)))
+    ∙ ap (λ (m : List ℕ). sets m (suc at) xs)
+    (set-comm l at (suc at + length xs) x d (λ e. absurd (omega (arith, e))) ∙ ap (λ (k : ℕ). set (set l k d) at x) (moved at (length xs)))
   where
     moved : (k n : ℕ) → suc k + n ≡ k + suc n
     moved k n = omega arith
@@ -68,12 +69,21 @@ pub record Counting (at n : ℕ) (lent now : List ℕ) (end m k : ℕ) : Type 0 
 module _ {at n : ℕ} {lent : List ℕ} where
   pub count-start : {w : ℕ} → w ≡ width n → w ≤ 5 → at + 5 ≤ length lent → Counting at n lent lent (at + w) n (at + w)
   unfolding decimal
-  count-start {w} e s h = record { ends = ap (λ (k : ℕ). at + k) e; from = omega arith; upto = omega arith; room = omega arith; size = refl; rest = ap (λ (k : ℕ). sets lent at (digits k n)) (sub at w ∙ e) }
+  count-start {w} e s h =
+      record {
+        ends = ap (λ (k : ℕ). at + k) e;
+        from = omega arith;
+        upto = omega arith;
+        room = omega arith;
+        size = refl;
+        rest = ap (λ (k : ℕ). sets lent at (digits k n)) (sub at w ∙ e);
+      }
     where
       sub : (a b : ℕ) → a + b - a ≡ b
       sub a b = omega arith
 
-  pub count-on : {now : List ℕ} {end m k d : ℕ} → Counting at n lent now end m k → at < k → d ≡ 48 + m % 10 → Counting at n lent (set now (k - 1) d) end (m / 10) (k - 1)
+  pub count-on : {now : List ℕ} {end m k d : ℕ} → Counting at n lent now end m k → at < k → d ≡ 48 + m % 10
+      → Counting at n lent (set now (k - 1) d) end (m / 10) (k - 1)
   count-on {now} {end} {m} {k} {d} z h e = record {
     ends = z .ends;
     from = omega arith;
@@ -94,7 +104,8 @@ module _ {at n : ℕ} {lent : List ℕ} where
       whole i j q = ap (sets now at) (digits-last i j m q)
 
   pub count-end : {now : List ℕ} {end m k : ℕ} → Counting at n lent now end m k → k ≤ at → Put at (decimal n) lent now end
-  count-end {now} {end} {m} {k} z h = record { ends = z .ends ∙ ap (λ (j : ℕ). at + j) (sym size-of); bytes = none-left (k - at) (omega (arith, z .from)) ∙ z .rest; size = z .size }
+  count-end {now} {end} {m} {k} z h =
+      record { ends = z .ends ∙ ap (λ (j : ℕ). at + j) (sym size-of); bytes = none-left (k - at) (omega (arith, z .from)) ∙ z .rest; size = z .size }
     where
       size-of : length (decimal n) ≡ width n
       size-of = decimal-length n
@@ -127,7 +138,8 @@ width-small n h = three (ltb n 10) (ltb n 100) (ltb n 1000) (lt-ltb n 1000 h)
 pub field-put : (n : ℕ) {at k p : ℕ} {t l l′ l″ : List ℕ} → Put at t l l′ k → Put k (decimal n) l′ l″ p → PutMost (length t + 5) at (t ++ decimal n) l l″ p
 field-put n {at} {k} {p} {t} x y = record { put = put-then x y; few = omega (arith, x .ends, y .ends, decimal-length n, width-le n) }
 
-pub number-put : {n m p : ℕ} {l l′ : List ℕ} → m ≡ n → m < 256 → PutMost (length (ascii "Refusal ") + 5) 0 (ascii "Refusal " ++ decimal m) l l′ p → PutMost 11 0 (ascii "Refusal " ++ decimal n) l l′ p
+pub number-put : {n m p : ℕ} {l l′ : List ℕ} → m ≡ n → m < 256 → PutMost (length (ascii "Refusal ") + 5) 0 (ascii "Refusal " ++ decimal m) l l′ p
+    → PutMost 11 0 (ascii "Refusal " ++ decimal n) l l′ p
 number-put {n} {m} {p} {l} {l′} e h x =
     subst (λ (k : ℕ). PutMost 11 0 (ascii "Refusal " ++ decimal k) l l′ p) e
     (record { put = x .put; few = omega (arith, x .put .ends, decimal-length m, width-small m (omega arith)) })
@@ -154,12 +166,16 @@ module _ (r : Refusal) (l : List ℕ) where
       → (Length g ≡ telling r l) × (l₇ ≡ after r l)
   unfolding telling after sentence
   sentence-told {l₁} {l₂} {l₃} {l₄} {l₅} {l₆} {l₇} {a} {b} {c} {d} {e} {f} {g} h p₁ p₂ p₃ p₄ p₅ p₆ p₇ =
-      rw (le-ltb (length l) 96 h) (ap Length (whole .ends ∙ none-before (length (sentence r))), put-whole whole (omega (arith, whole .ends, p₁ .few, p₂ .few, p₃ .few, p₄ .few, p₅ .ends, p₆ .few, p₇ .ends)))
+      rw (le-ltb (length l) 96 h) (
+        ap Length (whole .ends ∙ none-before (length (sentence r))),
+        put-whole whole (omega (arith, whole .ends, p₁ .few, p₂ .few, p₃ .few, p₄ .few, p₅ .ends, p₆ .few, p₇ .ends)),
+      )
     where
       none-before : (k : ℕ) → 0 + k ≡ k
       none-before k = omega arith
 
       whole : Put 0 (sentence r) l l₇ g
       whole = subst (λ (t : List ℕ). Put 0 t l l₇ g)
-          (regroup (ascii "Refusal ") (decimal (r .number)) (ascii " at byte ") (decimal (r .start)) (ascii ", length ") (decimal (r .length)) (ascii ", detail ") (decimal (r .detail)) (ascii ": ") (words (r .number)) (ascii "."))
+          (regroup (ascii "Refusal ") (decimal (r .number)) (ascii " at byte ") (decimal (r .start)) (ascii ", length ") (decimal (r .length))
+          (ascii ", detail ") (decimal (r .detail)) (ascii ": ") (words (r .number)) (ascii "."))
           (put-then (put-then (put-then (put-then (put-then (put-then (p₁ .put) (p₂ .put)) (p₃ .put)) (p₄ .put)) p₅) (p₆ .put)) p₇)

@@ -29,15 +29,18 @@ unfolding digitOf
 digit-of d h = rw (le-leb (48 + d) 57 (omega arith), le-leb 48 (48 + d) (omega arith)) (omega arith)
 
 -- one digit more
-read-last : (max acc m d : ℕ) (l : List ℕ) → readFrom 10 max acc l ≡ Is m → d < 10 → m * 10 + d ≤ max → readFrom 10 max acc (l ++ ((48 + d) ∷ [])) ≡ Is (m * 10 + d)
+read-last : (max acc m d : ℕ) (l : List ℕ) → readFrom 10 max acc l ≡ Is m → d < 10 → m * 10 + d ≤ max
+    → readFrom 10 max acc (l ++ ((48 + d) ∷ [])) ≡ Is (m * 10 + d)
 unfolding readFrom
 read-last max acc m d [] e h g =
     let q : acc ≡ m = cc in
     rw (digit-of d h, lt-ltb d 10 h, q, le-leb (m * 10 + d) max g)
 read-last max acc m d (b ∷ l) e h g =
-    go (ltb (digitOf b) 10) (leb (acc * 10 + digitOf b) max) (readFrom 10 max (acc * 10 + digitOf b) l) (readFrom 10 max (acc * 10 + digitOf b) (l ++ ((48 + d) ∷ []))) e (λ q. read-last max (acc * 10 + digitOf b) m d l q h g)
+    go (ltb (digitOf b) 10) (leb (acc * 10 + digitOf b) max) (readFrom 10 max (acc * 10 + digitOf b) l)
+    (readFrom 10 max (acc * 10 + digitOf b) (l ++ ((48 + d) ∷ []))) e (λ q. read-last max (acc * 10 + digitOf b) m d l q h g)
   where
-    go : (t u : Bool) (x y : Number) → pick t (pick u x Refused) Refused ≡ Is m → (x ≡ Is m → y ≡ Is (m * 10 + d)) → pick t (pick u y Refused) Refused ≡ Is (m * 10 + d)
+    go : (t u : Bool) (x y : Number) → pick t (pick u x Refused) Refused ≡ Is m → (x ≡ Is m → y ≡ Is (m * 10 + d))
+        → pick t (pick u y Refused) Refused ≡ Is (m * 10 + d)
     go true true x y q f = f q
     go true false x y q f = let z : _≡_ {A = ℕ} 0 1 = cc in absurd (omega arith)
     go false u x y q f = let z : _≡_ {A = ℕ} 0 1 = cc in absurd (omega arith)
@@ -57,7 +60,8 @@ width-most : (n : ℕ) → n < 100000 → n < tens (width n)
 unfolding width tens
 width-most n h = four (ltb n 10) (ltb n 100) (ltb n 1000) (ltb n 10000) (ltb-true n 10) (ltb-true n 100) (ltb-true n 1000) (ltb-true n 10000)
   where
-    four : (a b c d : Bool) → (a ≡ true → n < 10) → (b ≡ true → n < 100) → (c ≡ true → n < 1000) → (d ≡ true → n < 10000) → n < tens (pick a 1 (pick b 2 (pick c 3 (pick d 4 5))))
+    four : (a b c d : Bool) → (a ≡ true → n < 10) → (b ≡ true → n < 100) → (c ≡ true → n < 1000) → (d ≡ true → n < 10000)
+        → n < tens (pick a 1 (pick b 2 (pick c 3 (pick d 4 5))))
     four true b c d p q r s = p refl
     four false true c d p q r s = q refl
     four false false true d p q r s = r refl
@@ -81,7 +85,8 @@ all-digits (suc w) n = all-append digit (digits w (n / 10)) ((48 + n % 10) ∷ [
 number-digits : (max : ℕ) (l : List ℕ) → all digit l ≡ true → 0 < length l → readNumber 10 max l ≡ readFrom 10 max 0 l
 unfolding readNumber readDigits
 number-digits max [] h g = absurd (omega arith)
-number-digits max (b ∷ l) h g = rw (ne-eqb b 43 (λ e. absurd (omega (arith, e, leb-true 48 b (all-here (leb 48 b) (leb b 57) (all-here (digit b) (all digit l) h))))))
+number-digits max (b ∷ l) h g =
+    rw (ne-eqb b 43 (λ e. absurd (omega (arith, e, leb-true 48 b (all-here (leb 48 b) (leb b 57) (all-here (digit b) (all digit l) h))))))
 
 width-some : (n : ℕ) → 0 < width n
 unfolding width
@@ -97,7 +102,9 @@ width-some n = four (ltb n 10) (ltb n 100) (ltb n 1000) (ltb n 10000)
 -- what the decimal writer writes, the number reader reads
 pub read-decimal : (max n : ℕ) → n < 100000 → n ≤ max → readNumber 10 max (decimal n) ≡ Is n
 unfolding decimal
-read-decimal max n h g = number-digits max (digits (width n) n) (all-digits (width n) n) (omega (arith, digits-length (width n) n, width-some n)) ∙ read-digits max (width n) n (width-most n h) g
+read-decimal max n h g =
+    number-digits max (digits (width n) n) (all-digits (width n) n) (omega (arith, digits-length (width n) n, width-some n))
+    ∙ read-digits max (width n) n (width-most n h) g
 
 -- ---- its bytes
 
@@ -144,7 +151,8 @@ all-decimal : (n : ℕ) → all digit (decimal n) ≡ true
 unfolding decimal
 all-decimal n = all-digits (width n) n
 
-field-is : (max k n b : ℕ) (l : List ℕ) (f : ℕ → List ℕ → Option Refusal) → n < 100000 → n ≤ max → digit b ≡ false → field max k (decimal n ++ (b ∷ l)) f ≡ f n (drop k (b ∷ l))
+field-is : (max k n b : ℕ) (l : List ℕ) (f : ℕ → List ℕ → Option Refusal) → n < 100000 → n ≤ max → digit b ≡ false
+    → field max k (decimal n ++ (b ∷ l)) f ≡ f n (drop k (b ∷ l))
 unfolding field
 field-is max k n b l f h g q =
     ap (λ (d : List ℕ). with (readNumber 10 max d) (λ j. f j (drop (length d + k) (decimal n ++ (b ∷ l))))) (leading-at (decimal n) b l decimal-digits q)
@@ -155,13 +163,25 @@ field-is max k n b l f h g q =
     decimal-digits = all-decimal n
 
 -- the sentence, from its first number on
-regroup : (a b c d e f g h i j k : List ℕ) → a ++ b ++ c ++ d ++ e ++ f ++ g ++ h ++ i ++ j ++ k ≡ a ++ (b ++ (c ++ (d ++ (e ++ (f ++ (g ++ (h ++ (i ++ (j ++ k)))))))))
+regroup : (a b c d e f g h i j k : List ℕ)
+    → a ++ b ++ c ++ d ++ e ++ f ++ g ++ h ++ i ++ j ++ k ≡ a ++ (b ++ (c ++ (d ++ (e ++ (f ++ (g ++ (h ++ (i ++ (j ++ k)))))))))
 regroup a b c d e f g h i j k = simp append-assoc
 
+-- the sentence up to its words, then these words
+abbrev told : Refusal → List ℕ → List ℕ
+told r end =
+    ascii "Refusal "
+    ++ (decimal (r .number)
+    ++ (ascii " at byte "
+    ++ (decimal (r .start)
+    ++ (ascii ", length " ++ (decimal (r .length) ++ (ascii ", detail " ++ (decimal (r .detail) ++ (ascii ": " ++ end))))))))
+
 module _ (r : Refusal) (a : r .number < 256) (b : r .start < 65536) (c : r .length < 65536) (d : r .detail < 65536) where
-  whole : sentence r ≡ ascii "Refusal " ++ (decimal (r .number) ++ (ascii " at byte " ++ (decimal (r .start) ++ (ascii ", length " ++ (decimal (r .length) ++ (ascii ", detail " ++ (decimal (r .detail) ++ (ascii ": " ++ (words (r .number) ++ ascii ".")))))))))
+  whole : sentence r ≡ told r (words (r .number) ++ ascii ".")
   unfolding sentence
-  whole = regroup (ascii "Refusal ") (decimal (r .number)) (ascii " at byte ") (decimal (r .start)) (ascii ", length ") (decimal (r .length)) (ascii ", detail ") (decimal (r .detail)) (ascii ": ") (words (r .number)) (ascii ".")
+  whole =
+      regroup (ascii "Refusal ") (decimal (r .number)) (ascii " at byte ") (decimal (r .start)) (ascii ", length ") (decimal (r .length))
+      (ascii ", detail ") (decimal (r .detail)) (ascii ": ") (words (r .number)) (ascii ".")
 
   recovers : recovered (sentence r) ≡ some r
   unfolding recovered
@@ -175,19 +195,22 @@ module _ (r : Refusal) (a : r .number < 256) (b : r .start < 65536) (c : r .leng
   -- 8 + 3 + 9 + 5 + 9 + 5 + 9 + 5 + 2 + 40 + 1
   room : length (sentence r) ≤ 96
   room =
-      let e : length (sentence r) ≡ 8 + (width (r .number) + (9 + (width (r .start) + (9 + (width (r .length) + (9 + (width (r .detail) + (2 + (length (words (r .number)) + 1))))))))) =
+      let e : length (sentence r)
+      ≡ 8 +
+      (width (r .number) + (9 + (width (r .start) + (9 + (width (r .length) + (9 + (width (r .detail) + (2 + (length (words (r .number)) + 1)))))))))
+      =
       ap length whole ∙ simp (length-append, decimal-length) (omega arith) in
       omega (arith, e, width-small (r .number) (omega arith), width-le (r .start), width-le (r .length), width-le (r .detail), words-short (r .number))
 
   plain : ended (sentence r) ≡ true
   plain =
       ap ended (whole ∙ last-apart)
-      ∙ ended-by (ascii "Refusal " ++ (decimal (r .number) ++ (ascii " at byte " ++ (decimal (r .start) ++ (ascii ", length " ++ (decimal (r .length) ++ (ascii ", detail " ++ (decimal (r .detail) ++ (ascii ": " ++ words (r .number)))))))))) inked
+      ∙ ended-by (told r (words (r .number))) inked
     where
-      last-apart : ascii "Refusal " ++ (decimal (r .number) ++ (ascii " at byte " ++ (decimal (r .start) ++ (ascii ", length " ++ (decimal (r .length) ++ (ascii ", detail " ++ (decimal (r .detail) ++ (ascii ": " ++ (words (r .number) ++ ascii "."))))))))) ≡ ascii "Refusal " ++ (decimal (r .number) ++ (ascii " at byte " ++ (decimal (r .start) ++ (ascii ", length " ++ (decimal (r .length) ++ (ascii ", detail " ++ (decimal (r .detail) ++ (ascii ": " ++ words (r .number))))))))) ++ ascii "."
+      last-apart : told r (words (r .number) ++ ascii ".") ≡ told r (words (r .number)) ++ ascii "."
       last-apart = simp append-assoc
 
-      inked : all ink (ascii "Refusal " ++ (decimal (r .number) ++ (ascii " at byte " ++ (decimal (r .start) ++ (ascii ", length " ++ (decimal (r .length) ++ (ascii ", detail " ++ (decimal (r .detail) ++ (ascii ": " ++ words (r .number)))))))))) ≡ true
+      inked : all ink (told r (words (r .number))) ≡ true
       inked =
           all-append ink (decimal (r .number)) _ (ink-decimal (r .number))
           (all-append ink (decimal (r .start)) _ (ink-decimal (r .start))

@@ -37,7 +37,8 @@ module _ (l : List ℕ) (at f : ℕ) (h : at ≤ length l) (e : f ≡ indexOf 46
       sum a b = omega arith
 
   pub stop-none : length (take (length l - at) (drop at l)) ≤ f → From l (past 46 (drop at l)) (length l)
-  stop-none g = record { here = drop-of-length-le l {i = length l} (omega arith) ∙ sym none-left ∙ rest-none 46 f (drop at l) found inside; within = omega arith }
+  stop-none g =
+      record { here = drop-of-length-le l {i = length l} (omega arith) ∙ sym none-left ∙ rest-none 46 f (drop at l) found inside; within = omega arith }
     where
       inside : length (drop at l) ≤ f
       inside = rw (rest-is l at) at g
@@ -113,7 +114,8 @@ all-there false b e = let z : _≡_ {A = ℕ} 0 1 = cc in absurd (omega arith)
 upto-stop : (w l : List ℕ) → stopless w ≡ true → upTo 46 (w ++ (46 ∷ l)) ≡ w
 unfolding upTo lower
 upto-stop [] l h = refl
-upto-stop (b ∷ w) l h = go (eqb (lower b) 46) (all-here (not (eqb (lower b) 46)) (stopless w) h) (upto-stop w l (all-there (not (eqb (lower b) 46)) (stopless w) h))
+upto-stop (b ∷ w) l h =
+    go (eqb (lower b) 46) (all-here (not (eqb (lower b) 46)) (stopless w) h) (upto-stop w l (all-there (not (eqb (lower b) 46)) (stopless w) h))
   where
     go : (t : Bool) → not t ≡ true → upTo 46 (w ++ (46 ∷ l)) ≡ w → pick t [] (b ∷ upTo 46 (w ++ (46 ∷ l))) ≡ b ∷ w
     go true q r = let z : _≡_ {A = ℕ} 0 1 = cc in absurd (omega arith)
@@ -122,7 +124,8 @@ upto-stop (b ∷ w) l h = go (eqb (lower b) 46) (all-here (not (eqb (lower b) 46
 past-stop : (w l : List ℕ) → stopless w ≡ true → past 46 (w ++ (46 ∷ l)) ≡ l
 unfolding past lower
 past-stop [] l h = refl
-past-stop (b ∷ w) l h = go (eqb (lower b) 46) (all-here (not (eqb (lower b) 46)) (stopless w) h) (past-stop w l (all-there (not (eqb (lower b) 46)) (stopless w) h))
+past-stop (b ∷ w) l h =
+    go (eqb (lower b) 46) (all-here (not (eqb (lower b) 46)) (stopless w) h) (past-stop w l (all-there (not (eqb (lower b) 46)) (stopless w) h))
   where
     go : (t : Bool) → not t ≡ true → past 46 (w ++ (46 ∷ l)) ≡ l → pick t (w ++ (46 ∷ l)) (past 46 (w ++ (46 ∷ l))) ≡ l
     go true q r = let z : _≡_ {A = ℕ} 0 1 = cc in absurd (omega arith)
@@ -137,12 +140,15 @@ text-some : (all w l : List ℕ) → textFrom all (w ++ (46 ∷ l)) ≡ upTo 46 
 text-some all [] l = refl
 text-some all (b ∷ w) l = refl
 
-pub at-table : (first whole : List ℕ) → upTo 46 whole ≡ first → (n : ℕ) (ws : List (List ℕ)) → all stopless ws ≡ true → textFrom whole (skip n (joined ws)) ≡ getD ws n first
+pub at-table : (first whole : List ℕ) → upTo 46 whole ≡ first → (n : ℕ) (ws : List (List ℕ)) → all stopless ws ≡ true
+    → textFrom whole (skip n (joined ws)) ≡ getD ws n first
 unfolding joined past
 at-table first whole e zero [] h = e
 at-table first whole e zero (w ∷ ws) h = text-some whole w (joined ws) ∙ upto-stop w (joined ws) (all-here (stopless w) (all stopless ws) h)
 at-table first whole e (suc n) [] h = ap (textFrom whole) (skip-nil n) ∙ e
-at-table first whole e (suc n) (w ∷ ws) h = ap (λ (l : List ℕ). textFrom whole (skip n l)) (past-stop w (joined ws) (all-here (stopless w) (all stopless ws) h)) ∙ at-table first whole e n ws (all-there (stopless w) (all stopless ws) h)
+at-table first whole e (suc n) (w ∷ ws) h =
+    ap (λ (l : List ℕ). textFrom whole (skip n l)) (past-stop w (joined ws) (all-here (stopless w) (all stopless ws) h))
+    ∙ at-table first whole e n ws (all-there (stopless w) (all stopless ws) h)
 
 -- the table of words, as the code has it
 pub words-in : (l : List ℕ) (n : ℕ) → l ≡ joined table → entryIn l n ≡ words n

@@ -10,4 +10,6 @@ put-number-spec =
     (λ c κs. search needs)  -- wide16-requires
     (λ c κs. search needs)  -- put-field-requires
     (λ c. search needs)  -- same-length
-    (λ c. let w : tie.After-wide16 = search in let p : tie.After-put-field = search in number-put (w .wide16 .ensures .0) (w .wide16 .ensures .1) (p .put-field .ensures)))  -- returns
+    (λ c.
+    let w : tie.After-wide16 = search in
+    let p : tie.After-put-field = search in number-put (w .wide16 .ensures .0) (w .wide16 .ensures .1) (p .put-field .ensures)))  -- returns

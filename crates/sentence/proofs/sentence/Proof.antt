@@ -28,7 +28,16 @@ sentence-spec =
     let b : tie.After-put-field2 = search in
     let a : tie.After-put-field = search in
     let n : tie.After-put-number = search in
-    omega (arith, f .put2 .ensures .ends, w .put-words .ensures .few, e .put .ensures .ends, d .put-field3 .ensures .few, b .put-field2 .ensures .few, a .put-field .ensures .few, n .put-number .ensures .few))  -- cast-result
+    omega (
+      arith,
+      f .put2 .ensures .ends,
+      w .put-words .ensures .few,
+      e .put .ensures .ends,
+      d .put-field3 .ensures .few,
+      b .put-field2 .ensures .few,
+      a .put-field .ensures .few,
+      n .put-number .ensures .few,
+    ))  -- cast-result
     (λ c. let f : tie.After-put2 = search in
     let w : tie.After-put-words = search in
     let e : tie.After-put = search in
@@ -36,7 +45,8 @@ sentence-spec =
     let b : tie.After-put-field2 = search in
     let a : tie.After-put-field = search in
     let n : tie.After-put-number = search in
-    f .put2 .ensures .size ∙ w .put-words .ensures .put .size ∙ e .put .ensures .size ∙ d .put-field3 .ensures .put .size ∙ b .put-field2 .ensures .put .size ∙ a .put-field .ensures .put .size ∙ n .put-number .ensures .put .size)  -- same-length
+    f .put2 .ensures .size ∙ w .put-words .ensures .put .size ∙ e .put .ensures .size ∙ d .put-field3 .ensures .put .size
+    ∙ b .put-field2 .ensures .put .size ∙ a .put-field .ensures .put .size ∙ n .put-number .ensures .put .size)  -- same-length
     (λ c. let f : tie.After-put2 = search in
     let w : tie.After-put-words = search in
     let e : tie.After-put = search in
@@ -45,4 +55,5 @@ sentence-spec =
     let a : tie.After-put-field = search in
     let n : tie.After-put-number = search in
     let z : tie.Start = search in
-    sentence-told (z .args .r) (z .args .buffer .now) (search needs) (n .put-number .ensures) (a .put-field .ensures) (b .put-field2 .ensures) (d .put-field3 .ensures) (e .put .ensures) (w .put-words .ensures) (f .put2 .ensures)))  -- returns-2
+    sentence-told (z .args .r) (z .args .buffer .now) (search needs) (n .put-number .ensures) (a .put-field .ensures)
+    (b .put-field2 .ensures) (d .put-field3 .ensures) (e .put .ensures) (w .put-words .ensures) (f .put2 .ensures)))  -- returns-2
