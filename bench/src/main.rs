@@ -5,6 +5,7 @@
 //! its iterator over a sign that is built once, raster included. A round times
 //! one side after the other; the ratio of a round is ours to the Rust's.
 
+#[allow(dead_code)]
 #[path = "../../tests/compare/src/kambelohi.rs"]
 mod kambelohi;
 mod inputs;
