@@ -4,7 +4,7 @@ ghost use Rattle.layout.specs.Listing.{listing as listingOf, after as afterOf};
 ghost use Rattle.kambelohi.specs.Exports.{readAnswer, plainAnswer, listAnswer, sentenceAnswer};
 ghost use Rattle.reading.specs.Reading.{reading as readingOf};
 ghost use Rattle.refusal.specs.Refusals.{refusal as refusalOf};
-ghost use Rattle.sentence.specs.Sentence.{telling as tellingOf, after as sentenceAfter};
+ghost use Rattle.sentence.specs.Sentence.{telling as tellingOf, bufferAfter as bufferOf};
 use layout::Answer;
 use layout::Span;
 use reading::Reading;
@@ -176,7 +176,7 @@ pub extern "C" fn kambelohi_sentence(
     detail: u16,
     buffer: &mut [u8],
 ) -> SentenceAnswer
-    ensures { λ r. ⌜ (r ≡ sentenceAnswer (tellingOf (refusalOf number start length detail) (now (buffer .entry)))) × (now (buffer .exit) ≡ sentenceAfter (refusalOf number start length detail) (now (buffer .entry))) ⌝ }
+    ensures { λ r. ⌜ (r ≡ sentenceAnswer (tellingOf (refusalOf number start length detail) (now (buffer .entry)))) × (now (buffer .exit) ≡ bufferOf (refusalOf number start length detail) (now (buffer .entry))) ⌝ }
 {
     let r = Refusal {
         number,

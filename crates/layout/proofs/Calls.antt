@@ -17,7 +17,7 @@ use Rattle.layout.specs.declared.Answer.the-variants.{On, Off, End, Refu
 use Rattle.layout.specs.Types.{items}
 use Rattle.layout.specs.Fonts.{boardOf}
 use Rattle.layout.specs.Listing.{Page, on, off, refused, pages, answerOf, recordsOf, Result, past, numbered, resultOn, result, listing, after}
-use Rattle.layout.specs.Demand.{Shows, Whole, counted, listed, Demand3}
+use Rattle.layout.specs.Demand.{Shows, Whole, countedRecords, listed, Demand3}
 use Rattle.layout.proofs.Checks.{admitted-result, result-on, answer-on}
 use Rattle.layout.proofs.Pages.{NoRefusal, records, Told, told}
 
@@ -76,14 +76,14 @@ ended c (suc N) k (p ∷ l) e h =
 
 -- ---- the records
 
-counted-page : (p : Page) (lent : List Span) → counted (answerOf p) (recordsOf p ++ drop (length (recordsOf p)) lent) ≡ recordsOf p
+counted-page : (p : Page) (lent : List Span) → countedRecords (answerOf p) (recordsOf p ++ drop (length (recordsOf p)) lent) ≡ recordsOf p
 counted-page (on d rs) lent = take-append-seam rs _
 counted-page (off d) lent = refl
 counted-page (refused x) lent = refl
 
 -- what a call's answer counts is what it wrote
 counted-is : (c : ℕ) (l : List Page) (n : ℕ) (lent : List Span)
-    → counted ((numbered c l n) .answer) ((numbered c l n) .written ++ drop (length ((numbered c l n) .written)) lent) ≡ (numbered c l n) .written
+    → countedRecords ((numbered c l n) .answer) ((numbered c l n) .written ++ drop (length ((numbered c l n) .written)) lent) ≡ (numbered c l n) .written
 counted-is c [] n lent = refl
 counted-is c (p ∷ l) zero lent = counted-page p lent
 counted-is c (on d rs ∷ l) (suc n) lent = counted-is (suc c) l n lent
@@ -108,7 +108,7 @@ no-refusal-rest (refused x) l h = absurd h
 module _ (file msg : List ℕ) (lent : ℕ → List Span) where
   -- the records that call n counts
   abbrev piece : ℕ → List Span
-  piece n = counted (listing file msg n (lent n)) (after file msg n (lent n))
+  piece n = countedRecords (listing file msg n (lent n)) (after file msg n (lent n))
 
   gathered : (c i : ℕ) (l : List Page) → NoRefusal l → ((n : ℕ) → n < length l → piece (i + n) ≡ (numbered c l n) .written)
       → listed file msg lent i (length l) ≡ records l

@@ -19,7 +19,7 @@ use Rattle.layout.specs.declared.Entry.{Entry}
 use Rattle.records.specs.declared.Config.{Config}
 use Rattle.layout.specs.Types.{Item, items, Board}
 use Rattle.layout.specs.Fonts.{boardOf}
-use Rattle.layout.specs.Place.{passRecords}
+use Rattle.layout.specs.Placing.{passRecords}
 use Rattle.layout.specs.Read.{Scan, Event, pass, close, stop, start, opening, events}
 use Rattle.layout.specs.Listing.{Page, on, off, refused, stopAt, offs, passStop, walk, pages, numbered, listing, Result, resultOn}
 use Rattle.layout.specs.Demand.{Shows}

@@ -14,7 +14,7 @@ use Rattle.layout.specs.declared.Entry.{Entry}
 use Rattle.layout.specs.Types.{Meter}
 use Rattle.layout.specs.Read.{unit}
 use Rattle.layout.specs.Demand.{In, here, there, Next, first, later, From, Rises, spans}
-use Rattle.layout.specs.Place.{trunc, due, gap, before, after, placeX, Line, addLine, lineOf, lines, above, baseline}
+use Rattle.layout.specs.Placing.{trunc, due, gap, sumBefore, sumAfter, placeX, Line, addLine, lineOf, lines, above, baseline}
 
 -- ---- truncation to the character grid
 
@@ -40,12 +40,12 @@ halves : (b : Bool) (x : ℕ) → pick b x 0 + pick b 0 x ≡ x
 halves true x = omega arith
 halves false x = omega arith
 
-pub before-after : (m : Meter) (n : ℕ) (p : Option Entry) (es : List Entry) → before m n p es + after m n p es ≡ widths m p es
+pub before-after : (m : Meter) (n : ℕ) (p : Option Entry) (es : List Entry) → sumBefore m n p es + sumAfter m n p es ≡ widths m p es
 before-after m n p [] = refl
 before-after m n p (e ∷ es) =
     omega (arith, halves (leb (e .state .span) n) (gap m p e), halves (ltb (e .state .span) n) (m .width e), before-after m n (some e) es)
 
-pub width-after : (m : Meter) (p : Option Entry) {e : Entry} {es : List Entry} → In e es → m .width e ≤ after m (e .state .span) p es
+pub width-after : (m : Meter) (p : Option Entry) {e : Entry} {es : List Entry} → In e es → m .width e ≤ sumAfter m (e .state .span) p es
 width-after m p (here {a = e}) = rw (le-ltb (e .state .span) (e .state .span) (le-refl _)) (omega arith)
 width-after m p (there {b = c} i) = omega (arith, width-after m (some c) i)
 
@@ -131,13 +131,13 @@ from-in : (n : ℕ) {e : Entry} {es : List Entry} → In e es → From n (spans 
 from-in n here f = f .0
 from-in n (there {b = c} i) f = omega (arith, from-in (c .state .span) i (f .1))
 
-before-none : (m : Meter) (k n : ℕ) (p : Option Entry) (es : List Entry) → k ≤ n → From n (spans es) → before m k p es ≡ 0
+before-none : (m : Meter) (k n : ℕ) (p : Option Entry) (es : List Entry) → k ≤ n → From n (spans es) → sumBefore m k p es ≡ 0
 before-none m k n p [] h f = refl
 before-none m k n p (e ∷ es) h f =
     rw (lt-leb (e .state .span) k (omega arith), le-ltb (e .state .span) k (omega arith)) (omega (arith, before-none m k (e .state .span) (some e) es (omega arith) (f .1)))
 
 pub before-next : (m : Meter) (p : Option Entry) {a b : Entry} {es : List Entry} → Next a b es → Rises (spans es)
-    → before m (b .state .span) p es ≡ before m (a .state .span) p es + (m .width a + due m a b)
+    → sumBefore m (b .state .span) p es ≡ sumBefore m (a .state .span) p es + (m .width a + due m a b)
 before-next m p (first {a = a} {b = b} {l = l}) f =
     rw (le-leb (a .state .span) (b .state .span) (omega arith), lt-ltb (a .state .span) (b .state .span) (f .0), le-leb (b .state .span) (b .state .span) (le-refl _), le-ltb (b .state .span) (b .state .span) (le-refl _))
     (rw (le-leb (a .state .span) (a .state .span) (le-refl _), le-ltb (a .state .span) (a .state .span) (le-refl _), lt-leb (b .state .span) (a .state .span) (f .0), le-ltb (b .state .span) (a .state .span) (omega arith))

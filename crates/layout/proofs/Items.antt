@@ -15,8 +15,8 @@ use Rattle.token.specs.declared.Shape.the-variants.{Bracket, Tag, Stray, Text a
 use Rattle.token.specs.Token.{isPair, lastByte, sliceLen, Slice, cuts, slices, restLen, shapeOf}
 use Rattle.value.specs.declared.Value.{Value}
 use Rattle.tag.specs.declared.Parsed.{Parsed}
-use Rattle.reading.specs.declared.Item.{Item as Said}
-use Rattle.reading.specs.declared.Item.the-variants.{Is, Fails}
+use Rattle.reading.specs.declared.Said.{Said}
+use Rattle.reading.specs.declared.Said.the-variants.{Is, Fails}
 use Rattle.reading.specs.Reading.{parsedItem, tagItem, textItem, shapeItem, itemOf}
 use Rattle.token.proofs.Laws.{slice-le, text-then}
 use Rattle.layout.specs.Types.{Item, itemAt, items}

@@ -22,7 +22,7 @@ use Rattle.font.specs.Table.{fontNumbered}
 use Rattle.font.specs.declared.Measure.{Measure}
 use Rattle.font.specs.declared.Measure.the-variants.{Width, Missing}
 use Rattle.layout.specs.Fonts.{versionFault, missing, widthOf, measureIn, charFaultAfter, faultIn, widthIn, heightIn, meterOf, boardOf}
-use Rattle.layout.specs.Place.{keep, select, same, firstFault, faultAt, spanFault, passFault, passRecords, recordOf}
+use Rattle.layout.specs.Placing.{keep, select, same, firstFault, faultAt, spanFault, passFault, passRecords, recordOf}
 use Rattle.layout.specs.Read.{Scan, Event, pass, close, stop, whole, start, opening, events}
 use Rattle.layout.specs.Listing.{Page, on, off, refused, stopAt, offs, passStop, walk, pages}
 use Rattle.layout.specs.Demand.{Reads, rectAfter, justAfter, atPlace, rectAtPlace, justAtPlace, Across, Down, In, here, there, From, Rises, printedRecords, printed, placed, Tells, Measured, Divides, Stands}

@@ -15,7 +15,7 @@ use Rattle.layout.specs.declared.Entry.{Entry}
 use Rattle.layout.specs.Types.{Meter, Board}
 use Rattle.layout.specs.Read.{unit}
 use Rattle.layout.specs.Demand.{In, here, there, Next, Rises, spans, Across, Down}
-use Rattle.layout.specs.Place.{orElse, unless, keep, select, same, samePage, due, before, after, placeX, group, beforeOf, afterOf, linesOf, aboveOf, belowOf, xOf, baseOf, recordOf, spanFault}
+use Rattle.layout.specs.Placing.{orElse, unless, keep, select, same, samePage, due, sumBefore, sumAfter, placeX, group, beforeOf, afterOf, linesOf, aboveOf, belowOf, xOf, baseOf, recordOf, spanFault}
 use Rattle.layout.proofs.Geometry.{inside-x, inside-y, next-x, before-next, before-after, width-after, tall-in, tall-above, next-right}
 
 -- ---- tests
@@ -129,8 +129,8 @@ spacing s r es a b c n u q =
     let t : Passed s r es a = passed s r es a q in
     let k : Same a b = same-true a b (select-true (same a) es (next-right n)) in
     let g : group s r es a ≡ group s r es b = same-group s r es a b k in
-    let e : before m (b .state .span) none (group s r es a) ≡ before m (a .state .span) none (group s r es a) + (m .width a + due m a b) = before-next m none n u in
-    let x : xOf s r es b ≡ placeX (a .state .«just_line») (s .config .«char_width») r (before m (b .state .span) none (group s r es a)) (after m (b .state .span) none (group s r es a)) = rw (g, k .justLine) in
+    let e : sumBefore m (b .state .span) none (group s r es a) ≡ sumBefore m (a .state .span) none (group s r es a) + (m .width a + due m a b) = before-next m none n u in
+    let x : xOf s r es b ≡ placeX (a .state .«just_line») (s .config .«char_width») r (sumBefore m (b .state .span) none (group s r es a)) (sumAfter m (b .state .span) none (group s r es a)) = rw (g, k .justLine) in
     x
     ∙ next-x (a .state .«just_line») (s .config .«char_width») r _ _ _ _ (m .width a) (due m a b) c e
     (before-after m (a .state .span) none (group s r es a) ∙ sym (before-after m (b .state .span) none (group s r es a))) (t .width)

@@ -15,8 +15,8 @@ use Rattle.value.specs.declared.OptNum.the-variants.{Some, None}
 use Rattle.value.specs.declared.Value.{Value}
 use Rattle.value.specs.declared.Value.the-variants.{ColorBackground, ColorForeground, ColorRectangle, Field, Flash, FlashEnd, Font as SetFont, Graphic, HexadecimalCharacter, JustificationLine, JustificationPage, ManufacturerSpecific, ManufacturerSpecificEnd, MovingText, NewLine, NewPage, PageBackground, PageTime, SpacingCharacter, SpacingCharacterEnd, Text, TextRectangle}
 use Rattle.value.specs.Tag.{tagOf, hasTag}
-use Rattle.reading.specs.declared.Item.{Item as Said}
-use Rattle.reading.specs.declared.Item.the-variants.{Is, Fails}
+use Rattle.reading.specs.declared.Said.{Said}
+use Rattle.reading.specs.declared.Said.the-variants.{Is, Fails}
 use Rattle.records.specs.declared.Config.{Config}
 use Rattle.sign.specs.Sign.{Font, RefusedAt, signFile}
 use Rattle.admit.specs.Admission.{Admission, denied, admitted, admission}
@@ -36,7 +36,7 @@ use Rattle.font.specs.Table.{fontNumbered}
 use Rattle.font.specs.declared.Measure.{Measure}
 use Rattle.font.specs.declared.Measure.the-variants.{Width, Missing}
 use Rattle.layout.specs.Fonts.{versionFault, missing, measureIn, fontFaultIn, charFaultAfter, faultIn, meterOf, boardOf}
-use Rattle.layout.specs.Place.{orElse, unless, firstFault, group, page, faultAt, spanFault, goesBack, backFault, passFault, passRecords}
+use Rattle.layout.specs.Placing.{orElse, unless, firstFault, group, page, faultAt, spanFault, goesBack, backFault, passFault, passRecords}
 use Rattle.layout.specs.Read.{tagged, markItem, scanBy, Scan, scan, Event, pass, close, stop, start, opening, events}
 use Rattle.layout.specs.Listing.{Page, on, off, refused, stopAt, offs, passStop, walk, pages, numbered, resultOn, listing}
 use Rattle.layout.proofs.Cover.{Within, ReadAs, ends, refuses, goes, emits, cuts, turns, fails, EventsAs, refused-at-once, begun, events-as, Honest}

@@ -16,7 +16,7 @@ use Rattle.layout.specs.declared.Entry.{Entry}
 use Rattle.records.specs.declared.Config.{Config}
 use Rattle.layout.specs.Types.{Item, items, Board}
 use Rattle.layout.specs.Fonts.{boardOf}
-use Rattle.layout.specs.Place.{passRecords, recordOf}
+use Rattle.layout.specs.Placing.{passRecords, recordOf}
 use Rattle.layout.specs.Read.{Scan, Event, pass, close, stop, opening, events}
 use Rattle.layout.specs.Listing.{Page, on, off, refused, stopAt, offs, passStop, walk, pages, Result, numbered, resultOn, result, listing, after}
 use Rattle.layout.proofs.Cover.{ReadAs, ends, refuses, goes, emits, cuts, turns, fails, EventsAs, refused-at-once, begun, events-as, entries}

@@ -24,7 +24,7 @@ use Rattle.font.specs.Character.{lookup, characterIn}
 use Rattle.font.specs.Measure.{widened, widthAfter, textWidth}
 use Rattle.layout.specs.Fonts.{measureIn, meterOf, boardOf}
 use Rattle.layout.specs.Read.{step, opening, events}
-use Rattle.layout.specs.Place.{orElse, unless, due, lineGap, beforeOf, afterOf, linesOf, aboveOf, belowOf, xOf, baseOf, recordOf, spanFault, passFault, passRecords}
+use Rattle.layout.specs.Placing.{orElse, unless, due, lineGap, beforeOf, afterOf, linesOf, aboveOf, belowOf, xOf, baseOf, recordOf, spanFault, passFault, passRecords}
 use Rattle.admit.specs.Admission.{admission}
 use Rattle.layout.specs.Listing.{pages, Result, result}
 

@@ -15,8 +15,8 @@ use Rattle.value.specs.declared.Place.{Place}
 use Rattle.value.specs.declared.Rectangle.{Rectangle}
 use Rattle.value.specs.declared.Value.{Value}
 use Rattle.value.specs.declared.Value.the-variants.{ColorBackground, ColorForeground, ColorRectangle, Field, Flash, FlashEnd, Font, Graphic, HexadecimalCharacter, JustificationLine, JustificationPage, ManufacturerSpecific, ManufacturerSpecificEnd, MovingText, NewLine, NewPage, PageBackground, PageTime, SpacingCharacter, SpacingCharacterEnd, Text, TextRectangle}
-use Rattle.reading.specs.declared.Item.{Item as Said}
-use Rattle.reading.specs.declared.Item.the-variants.{Is, Fails}
+use Rattle.reading.specs.declared.Said.{Said}
+use Rattle.reading.specs.declared.Said.the-variants.{Is, Fails}
 use Rattle.reading.specs.Reading.{itemOf}
 use Rattle.records.specs.declared.Config.{Config}
 use Rattle.sign.specs.Sign.{Font as SignFont, Accepted, signFile}
@@ -30,7 +30,7 @@ use Rattle.font.specs.declared.Measure.the-variants.{Width}
 use Rattle.font.specs.Table.{fontNumbered}
 use Rattle.font.specs.Measure.{textWidth}
 use Rattle.layout.specs.Fonts.{charsOf, boardOf}
-use Rattle.layout.specs.Place.{group, due, recordOf, passRecords}
+use Rattle.layout.specs.Placing.{group, due, recordOf, passRecords}
 use Rattle.layout.specs.Read.{rectOf, whole, Event, pass, close, stop, events}
 use Rattle.layout.specs.Listing.{listing, after}
 
@@ -71,16 +71,16 @@ pub record Whole (file msg : List ℕ) (lent : ℕ → List Span) (N : ℕ) : Ty
   pub shows : (n : ℕ) → n < N → Shows (listing file msg n (lent n))
 
 -- "those that each on answer counts"
-abbrev pub counted : Answer → List Span → List Span
-counted (On d n) l = take n l
-counted (Off d) l = []
-counted (End n) l = []
-counted (Refused r) l = []
+abbrev pub countedRecords : Answer → List Span → List Span
+countedRecords (On d n) l = take n l
+countedRecords (Off d) l = []
+countedRecords (End n) l = []
+countedRecords (Refused r) l = []
 
 -- "as its call left them, answer after answer": those of n answers from number i on
 abbrev pub listed : List ℕ → List ℕ → (ℕ → List Span) → ℕ → ℕ → List Span
 listed file msg lent i zero = []
-listed file msg lent i (suc n) = counted (listing file msg i (lent i)) (after file msg i (lent i)) ++ listed file msg lent (suc i) n
+listed file msg lent i (suc n) = countedRecords (listing file msg i (lent i)) (after file msg i (lent i)) ++ listed file msg lent (suc i) n
 
 -- ---- what is printed
 

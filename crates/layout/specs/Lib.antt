@@ -1,7 +1,7 @@
 pub mod Types
 pub mod Fonts
 pub mod Read
-pub mod Place
+pub mod Placing
 pub mod Listing
 pub mod Demand
 pub mod Bounds

@@ -15,7 +15,7 @@ use Rattle.layout.specs.declared.Entry.{Entry}
 use Rattle.layout.specs.Types.{Item, items, Board}
 use Rattle.refusal.specs.Refusals.{refusal}
 use Rattle.layout.specs.Fonts.{boardOf}
-use Rattle.layout.specs.Place.{orElse, unless, passFault, passRecords}
+use Rattle.layout.specs.Placing.{orElse, unless, passFault, passRecords}
 use Rattle.layout.specs.Read.{Event, pass, close, stop, opening, events}
 
 -- ---- the answers of a message

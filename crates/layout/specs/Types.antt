@@ -9,7 +9,7 @@ use Rattle.value.specs.declared.Place.{Place}
 use Rattle.value.specs.declared.OptNum.{OptNum}
 use Rattle.value.specs.declared.OptNum.the-variants.{Some, None}
 use Rattle.records.specs.declared.Config.{Config}
-use Rattle.reading.specs.declared.Item.{Item as Said}
+use Rattle.reading.specs.declared.Said.{Said}
 use Rattle.reading.specs.Reading.{itemOf}
 use Rattle.layout.specs.declared.Entry.{Entry}
 

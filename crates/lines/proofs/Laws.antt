@@ -9,7 +9,7 @@ use Rattle.value.specs.declared.OptNum.{OptNum}
 use Rattle.value.specs.declared.OptNum.the-variants.{Some, None}
 use Rattle.layout.specs.declared.Entry.{Entry}
 use Rattle.layout.specs.Types.{unwrapOr, Meter}
-use Rattle.layout.specs.Place.{Line, addLine, lineOf, lines, orElse, firstFault, keep, select, samePage}
+use Rattle.layout.specs.Placing.{Line, addLine, lineOf, lines, orElse, firstFault, keep, select, samePage}
 use Rattle.rows.specs.Measured.{flag, rowOf, faultOf, fontNumber, faultNumber, faultDetail, RowTells}
 use Rattle.lines.specs.Lines.{optOf, rowLine, linesFrom, rowFault, fontFaultFrom}
 

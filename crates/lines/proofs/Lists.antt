@@ -12,7 +12,7 @@ use lib.ListN.{length, getD, set, length-set}
 use lib.Seq.{getD-set-same, getD-set-other}
 use borrow.Author.Tests.{lt-ltb, le-ltb, ltb-true, ltb-false, eq-eqb, ne-eqb}
 use Rattle.base.specs.Pick.{pick}
-use Rattle.layout.specs.Place.{Line, combine, addLine, orElse}
+use Rattle.layout.specs.Placing.{Line, combine, addLine, orElse}
 use Rattle.rows.specs.declared.Fault.{Fault}
 use Rattle.rows.specs.declared.Row.{Row}
 use Rattle.rows.specs.Rows.{cells, RowRoom, rowAt, rowsOf}

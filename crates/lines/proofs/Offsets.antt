@@ -12,7 +12,7 @@ use lib.ListN.{length, getD, set, take, length-set}
 use lib.Seq.{take-suc-set, getD-take}
 use borrow.Author.Tests.{ltb-true, ltb-false, ne-eqb}
 use Rattle.base.specs.Pick.{pick}
-use Rattle.layout.specs.Place.{Line, lineGap, gapAbove, total, above, below}
+use Rattle.layout.specs.Placing.{Line, lineGap, gapAbove, total, above, below}
 use Rattle.rows.specs.Rows.{cells, rowsOf}
 use Rattle.rows.specs.Measured.{faultOf}
 use Rattle.rows.proofs.Laws.{cells-next, cells-done, cells-length}

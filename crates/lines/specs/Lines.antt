@@ -10,7 +10,7 @@ use lib.ListN.{length, getD, take}
 use Rattle.base.specs.Pick.{pick}
 use Rattle.value.specs.declared.OptNum.{OptNum}
 use Rattle.value.specs.declared.OptNum.the-variants.{Some, None}
-use Rattle.layout.specs.Place.{Line, addLine, firstFault, gapAbove, total}
+use Rattle.layout.specs.Placing.{Line, addLine, firstFault, gapAbove, total}
 use Rattle.rows.specs.declared.Row.{Row}
 use Rattle.rows.specs.Rows.{cells, rowsOf}
 use Rattle.rows.specs.Measured.{faultOf, fontNumber}

@@ -3,7 +3,7 @@ ghost use mathlib.Core.Path.{_≡_};
 ghost use Prim.Native.Nat.{_+_, _≤_, _<_, max};
 ghost use lib.ListN.{length};
 ghost use Rattle.base.specs.Pick.{pick};
-ghost use Rattle.layout.specs.Place.{combine as combineOf};
+ghost use Rattle.layout.specs.Placing.{combine as combineOf};
 ghost use Rattle.rows.specs.Rows.{RowRoom};
 ghost use Rattle.rows.specs.Measured.{fontNumber};
 ghost use Rattle.lines.specs.Lines.{SlotFor, lineIs, LinesOf, gapOf, PageHeights, footIn, heightsIn};

@@ -15,8 +15,8 @@ use Rattle.value.specs.declared.Place.{Place}
 use Rattle.value.specs.declared.Value.{Value}
 use Rattle.value.specs.declared.Value.the-variants.{Text}
 use Rattle.value.specs.Tag.{tagOf, hasTag}
-use Rattle.reading.specs.declared.Item.{Item as Said}
-use Rattle.reading.specs.declared.Item.the-variants.{Is, Fails}
+use Rattle.reading.specs.declared.Said.{Said}
+use Rattle.reading.specs.declared.Said.the-variants.{Is, Fails}
 use Rattle.reading.specs.Reading.{place, itemOf}
 use Rattle.records.specs.declared.Config.{Config}
 use Rattle.layout.specs.declared.Mark.{Mark}

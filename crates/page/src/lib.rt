@@ -6,7 +6,7 @@ ghost use Rattle.layout.specs.Read.{tagged as taggedOf, markOf, markItem, scan 
 ghost use Rattle.page.specs.State.{newPage, doneAfter, nextState};
 ghost use Rattle.page.specs.Scan.{told, lookBy, lookAt, itemsFrom};
 use layout::Mark;
-use reading::Item;
+use reading::Said;
 use records::Config;
 use refusal::OptRefusal;
 use refusal::Refusal;
@@ -65,12 +65,12 @@ fn mark_of(tags: u32, v: Value) -> Mark
     }
 }
 
-fn mark_item(tags: u32, item: Item) -> Mark
+fn mark_item(tags: u32, item: Said) -> Mark
     ensures { λ r. ⌜ r ≡ markItem tags item ⌝ }
 {
     match item {
-        Item::Is(v) => mark_of(tags, v),
-        Item::Fails(n) => Mark::Wrong(n),
+        Said::Is(v) => mark_of(tags, v),
+        Said::Fails(n) => Mark::Wrong(n),
     }
 }
 

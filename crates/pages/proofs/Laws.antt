@@ -19,7 +19,7 @@ use Rattle.layout.specs.declared.Span.{Span}
 use Rattle.layout.specs.Types.{Item, Board}
 use Rattle.refusal.specs.Refusals.{refusal}
 use Rattle.layout.specs.Read.{Event, newPage, whole}
-use Rattle.layout.specs.Place.{orElse, unless, passFault, passRecords}
+use Rattle.layout.specs.Placing.{orElse, unless, passFault, passRecords}
 use Rattle.layout.specs.Listing.{Page, on, refused as refusedPage, offs, stopAt, walk}
 use Rattle.page.specs.Scan.{itemsFrom}
 use Rattle.rows.specs.Rows.{spansOf}

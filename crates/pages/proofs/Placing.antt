@@ -16,7 +16,7 @@ use Rattle.layout.specs.declared.RenderState.{RenderState}
 use Rattle.layout.specs.declared.Entry.{Entry}
 use Rattle.layout.specs.declared.Span.{Span}
 use Rattle.layout.specs.Types.{Board}
-use Rattle.layout.specs.Place.{passFault, passRecords}
+use Rattle.layout.specs.Placing.{passFault, passRecords}
 use Rattle.refusal.specs.declared.OptRefusal.{OptRefusal}
 use Rattle.refusal.specs.declared.OptRefusal.the-variants.{Some, None}
 use Rattle.page.specs.Scan.{faultIs, itemsFrom}

@@ -17,7 +17,7 @@ use Rattle.layout.specs.declared.Span.{Span}
 use Rattle.layout.specs.Types.{Item, Board}
 use Rattle.refusal.specs.Refusals.{refusal}
 use Rattle.layout.specs.Read.{Scan, scan, stopIf, start, newPage, read}
-use Rattle.layout.specs.Place.{passFault, passRecords}
+use Rattle.layout.specs.Placing.{passFault, passRecords}
 use Rattle.layout.specs.Listing.{Page, on, off, refused as refusedPage, offs, walk}
 use Rattle.page.specs.declared.PageState.{PageState}
 use Rattle.page.specs.declared.PageState.the-variants.{On as OnState, Off as OffState, Done}

@@ -70,7 +70,7 @@ fn render_pass(
                 OptRefusal::Some(r) => PassEnd::Refused(r),
                 OptRefusal::None => {
                     let how = d.how;
-                    pass::done(how, d.at, at + d.count, d.rect, d.state)
+                    pass::end_pass(how, d.at, at + d.count, d.rect, d.state)
                 }
             }
         }
@@ -100,7 +100,7 @@ fn last_pass(p: PassEnd) -> PageEnd
 }
 
 // The page whose last pass is done.
-fn done(c: Config, more: bool, d: PassDone) -> PageEnd
+fn end_page(c: Config, more: bool, d: PassDone) -> PageEnd
     ensures { λ r. ⌜ r ≡ PageEnd.Ended (pageDone c more d) ⌝ }
 {
     let last = d.state;
@@ -147,10 +147,10 @@ fn render_page(
                         k += 1;
                     }
                     How::Turn => {
-                        return done(c, true, d);
+                        return end_page(c, true, d);
                     }
                     How::End => {
-                        return done(c, false, d);
+                        return end_page(c, false, d);
                     }
                 }
             }

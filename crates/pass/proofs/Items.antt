@@ -16,7 +16,7 @@ use Rattle.token.specs.declared.Shape.{Shape}
 use Rattle.token.specs.declared.Shape.the-variants.{Bracket, Tag, Stray, Text as TextShape}
 use Rattle.token.specs.Token.{isPair, lastByte, shapeOf}
 use Rattle.tag.specs.declared.Parsed.{Parsed}
-use Rattle.reading.specs.declared.Item.{Item as Said}
+use Rattle.reading.specs.declared.Said.{Said}
 use Rattle.reading.specs.Reading.{parsedItem, tagItem, textItem, shapeItem, itemOf}
 use Rattle.layout.specs.declared.Entry.{Entry}
 use Rattle.layout.specs.Demand.{Role, text, hexadecimal, rectangle, pageJust, newPage as pageRole, other, roleOf, roleIn}

@@ -16,8 +16,8 @@ use Rattle.utf8.specs.Utf8.{codes}
 use Rattle.value.specs.declared.Place.{Place}
 use Rattle.value.specs.declared.Value.{Value}
 use Rattle.refusal.specs.declared.Refusal.{Refusal}
-use Rattle.reading.specs.declared.Item.{Item as Said}
-use Rattle.reading.specs.declared.Item.the-variants.{Is, Fails}
+use Rattle.reading.specs.declared.Said.{Said}
+use Rattle.reading.specs.declared.Said.the-variants.{Is, Fails}
 use Rattle.reading.specs.Reading.{place, itemOf}
 use Rattle.records.specs.declared.Config.{Config}
 use Rattle.layout.specs.declared.Rect.{Rect}

@@ -8,7 +8,7 @@ use layout::Entry;
 use layout::Rect;
 use layout::RenderState;
 use layout::Step;
-use reading::Item;
+use reading::Said;
 use records::Config;
 use refusal::Refusal;
 use sign::SignFile;
@@ -37,13 +37,13 @@ pub enum PassEnd {
 }
 
 // What an item at a place does.
-fn step_by(c: Config, st: RenderState, blank: bool, p: Place, item: Item) -> Step
+fn step_by(c: Config, st: RenderState, blank: bool, p: Place, item: Said) -> Step
     requires { ⌜ (c .«line_just» ≤ 4) × (c .«page_just» ≤ 4) ⌝ }
     ensures { λ r. ⌜ r ≡ itemStep c st blank p item ⌝ }
 {
     match item {
-        Item::Is(v) => render::step(c, st, blank, p, v),
-        Item::Fails(number) => Step::Refuse(Refusal {
+        Said::Is(v) => render::step(c, st, blank, p, v),
+        Said::Fails(number) => Step::Refuse(Refusal {
             number,
             start: p.start,
             length: p.len,
@@ -99,7 +99,7 @@ fn store(
 }
 
 // The pass is done.
-pub fn done(how: How, at: usize, count: usize, rect: Rect, state: RenderState) -> PassEnd
+pub fn end_pass(how: How, at: usize, count: usize, rect: Rect, state: RenderState) -> PassEnd
     ensures { λ r. ⌜ r ≡ PassEnd.Ended (doneBy how at count rect state) ⌝ }
 {
     PassEnd::Ended(PassDone {
@@ -149,12 +149,12 @@ pub fn read_pass(
                 n += 1;
             }
             Step::Cut(next) => {
-                return done(How::Cut, end, n, st.rect, next);
+                return end_pass(How::Cut, end, n, st.rect, next);
             }
             Step::Turn => {
-                return done(How::Turn, end, n, st.rect, st);
+                return end_pass(How::Turn, end, n, st.rect, st);
             }
         }
     }
-    done(How::End, at, n, st.rect, st)
+    end_pass(How::End, at, n, st.rect, st)
 }

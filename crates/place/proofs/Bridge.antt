@@ -14,13 +14,13 @@ use Rattle.layout.specs.declared.Span.{Span}
 use Rattle.layout.specs.declared.Entry.{Entry}
 use Rattle.layout.specs.Types.{Meter, Board}
 use Rattle.refusal.specs.Refusals.{refusal}
-use Rattle.layout.specs.Place as place
-use Rattle.layout.specs.Place.{orElse, unless, firstFault, select, same, samePage, beforeOf, afterOf, linesOf, aboveOf, belowOf, xOf, baseOf, recordOf, spanFault, goesBack, backFault, passFault, passRecords}
+use Rattle.layout.specs.Placing as place
+use Rattle.layout.specs.Placing.{orElse, unless, firstFault, select, same, samePage, beforeOf, afterOf, linesOf, aboveOf, belowOf, xOf, baseOf, recordOf, spanFault, goesBack, backFault, passFault, passRecords}
 use Rattle.rows.specs.declared.Row.{Row}
 use Rattle.rows.specs.Measured.{rowOf, faultOf, RowTells}
-use Rattle.across.specs.declared.Sums.{Sums}
-use Rattle.across.specs.Sums.{sums, noneYet}
-use Rattle.across.proofs.Laws.{across-before, across-after, across-fault}
+use Rattle.sums.specs.declared.Sums.{Sums}
+use Rattle.sums.specs.Sums.{sums, noneYet}
+use Rattle.sums.proofs.Laws.{sums-before, sums-after, sums-fault}
 use Rattle.lines.specs.Lines.{fontFaultFrom}
 use Rattle.lines.proofs.Laws.{lines-measured, faults-measured}
 use Rattle.place.specs.Placed.{goesBackFrom, backRows, faultAt, baseWith, recordWith, faultWith, aboveAt, belowAt, recordAt, spanFaultAt, rowsFault, rowsRecords}
@@ -73,7 +73,7 @@ module _ (m : Meter) (p : RowTells m) (c : Config) (q : Rect) (es : List Entry) 
 
   record-same : (e : Entry) → recordAt c q (map (rowOf m) es) (rowOf m e) ≡ recordOf board q es e
   unfolding recordAt recordWith baseWith aboveAt belowAt recordOf xOf baseOf beforeOf afterOf linesOf aboveOf belowOf
-  record-same e = rw (across-before m p es e, across-after m p es e, lines-measured m p es e)
+  record-same e = rw (sums-before m p es e, sums-after m p es e, lines-measured m p es e)
 
   fault-at : (e : Entry) (f : Option (ℕ × ℕ)) → faultAt (rowOf m e) f ≡ place.faultAt board q es e f
   fault-at e none = refl
@@ -82,7 +82,7 @@ module _ (m : Meter) (p : RowTells m) (c : Config) (q : Rect) (es : List Entry) 
   group-part : (e : Entry)
       → (let o : Sums = sums (rowOf m e) noneYet (map (rowOf m) es) in
       faultAt (rowOf m e) (faultOf (o .fault) (o .detail)) ≡ place.faultAt board q es e (firstFault (m .fault) (select (same e) es)))
-  group-part e = ap (faultAt (rowOf m e)) (across-fault m p es e) ∙ fault-at e (firstFault (m .fault) (select (same e) es))
+  group-part e = ap (faultAt (rowOf m e)) (sums-fault m p es e) ∙ fault-at e (firstFault (m .fault) (select (same e) es))
 
   font-part : (e : Entry) → faultAt (rowOf m e) (fontFaultFrom (e .state .«just_page») (map (rowOf m) es))
       ≡ place.faultAt board q es e (firstFault (m .fontFault) (select (samePage e) es))
@@ -93,7 +93,7 @@ module _ (m : Meter) (p : RowTells m) (c : Config) (q : Rect) (es : List Entry) 
   fault-same e =
       chain _ _ _ _ _ _ _ _ _ _
       (group-part e)
-      (rw (across-before m p es e, across-after m p es e))
+      (rw (sums-before m p es e, sums-after m p es e))
       (font-part e)
       (rw (lines-measured m p es e))
       (rw (lines-measured m p es e))

@@ -16,7 +16,7 @@ use Rattle.layout.specs.declared.Rect.{Rect}
 use Rattle.layout.specs.declared.Span.{Span}
 use Rattle.refusal.specs.Refusals.{refusal}
 use Rattle.layout.specs.Read.{unit}
-use Rattle.layout.specs.Place.{trunc, orElse, unless, firstFault, placeX}
+use Rattle.layout.specs.Placing.{trunc, orElse, unless, firstFault, placeX}
 use Rattle.refusal.specs.declared.OptRefusal.{OptRefusal}
 use Rattle.refusal.specs.declared.OptRefusal.the-variants.{Some, None}
 use Rattle.page.specs.Scan.{faultIs}
@@ -24,8 +24,8 @@ use Rattle.rows.specs.declared.Row.{Row}
 use Rattle.rows.specs.Rows.{cells, RowRoom, SpanRoom, rowAt, rowsOf, spansOf, putSpan, SpanPut}
 use Rattle.rows.specs.Measured.{faultOf}
 use Rattle.rows.proofs.Laws.{cells-next, cells-done, spans-put}
-use Rattle.across.specs.declared.Sums.{Sums}
-use Rattle.across.specs.Sums.{sameRow, joined, advanced, sums, noneYet, SumsOf}
+use Rattle.sums.specs.declared.Sums.{Sums}
+use Rattle.sums.specs.Sums.{sameRow, joined, advanced, sums, noneYet, SumsOf}
 use Rattle.lines.specs.declared.PageLines.{PageLines}
 use Rattle.lines.specs.declared.Heights.{Heights}
 use Rattle.lines.specs.Lines.{fontFaultFrom, PageHeights, footIn, heightsIn}

@@ -12,15 +12,15 @@ use Rattle.records.specs.declared.Config.{Config}
 use Rattle.layout.specs.declared.Rect.{Rect}
 use Rattle.layout.specs.declared.Span.{Span}
 use Rattle.refusal.specs.Refusals.{refusal}
-use Rattle.layout.specs.Place.{trunc, orElse, unless, firstFault, placeX, above, below, baseline}
+use Rattle.layout.specs.Placing.{trunc, orElse, unless, firstFault, placeX, above, below, baseline}
 use Rattle.refusal.specs.declared.OptRefusal.{OptRefusal}
 use Rattle.refusal.specs.declared.OptRefusal.the-variants.{None}
 use Rattle.page.specs.Scan.{faultIs}
 use Rattle.rows.specs.declared.Row.{Row}
 use Rattle.rows.specs.Rows.{RowRoom, SpanRoom, rowsOf, spansOf}
 use Rattle.rows.specs.Measured.{faultOf}
-use Rattle.across.specs.declared.Sums.{Sums}
-use Rattle.across.specs.Sums.{sums, noneYet}
+use Rattle.sums.specs.declared.Sums.{Sums}
+use Rattle.sums.specs.Sums.{sums, noneYet}
 use Rattle.lines.specs.declared.PageLines.{PageLines}
 use Rattle.lines.specs.declared.Heights.{Heights}
 use Rattle.lines.specs.Lines.{linesFrom, fontFaultFrom, PageHeights}

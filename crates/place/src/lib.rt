@@ -2,13 +2,12 @@
 ghost use mathlib.Core.Path.{_≡_};
 ghost use Prim.Native.Nat.{_+_, _≤_, _<_};
 ghost use lib.ListN.{length};
-ghost use Rattle.layout.specs.Place.{trunc as truncOf};
+ghost use Rattle.layout.specs.Placing.{trunc as truncOf};
 ghost use Rattle.page.specs.Scan.{faultIs};
 ghost use Rattle.rows.specs.Rows.{RowRoom, rowsOf};
 ghost use Rattle.lines.specs.Lines.{PageHeights};
 ghost use Rattle.place.specs.declared.Placed.the-variants.{Refused};
 ghost use Rattle.place.specs.Placed.{goesBackFrom, backRows, standsAt, refusalOf, recordBy, SpanAsked, placedWith, LinesMade, Placeable, RowByRow, PassPlaced};
-use across::Sums;
 use layout::Rect;
 use layout::Span;
 use lines::Heights;
@@ -17,6 +16,7 @@ use records::Config;
 use refusal::OptRefusal;
 use refusal::Refusal;
 use rows::Row;
+use sums::Sums;
 
 // A placed span, or its refusal.
 pub enum Placed {
@@ -202,7 +202,7 @@ fn place_rows(
         let r = rows::row_at(rows, i);
         page = lines_for(page, c.char_height, rows, n, r.just_page, &mut feet);
         let v = lines::offset_vert(page, &feet, r.line);
-        let o = across::offset_horiz(rows, n, r);
+        let o = sums::offset_horiz(rows, n, r);
         match place_span(c, rect, r, o, v) {
             Placed::Refused(f) => {
                 return OptRefusal::Some(f);

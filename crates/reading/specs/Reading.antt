@@ -14,8 +14,8 @@ use Rattle.value.specs.declared.Value.the-variants.{Text}
 use Rattle.tag.specs.declared.Parsed.{Parsed}
 use Rattle.tag.specs.declared.Parsed.the-variants.{Good, Unsupported, Bad}
 use Rattle.parse.specs.Parse.{tagValue}
-use Rattle.reading.specs.declared.Item.{Item}
-use Rattle.reading.specs.declared.Item.the-variants.{Is, Fails}
+use Rattle.reading.specs.declared.Said.{Said}
+use Rattle.reading.specs.declared.Said.the-variants.{Is, Fails}
 use Rattle.refusal.specs.Refusals.{refusal}
 use Rattle.reading.specs.declared.Reading.{Reading}
 use Rattle.reading.specs.declared.Reading.the-variants.{Slice, End, Refused}
@@ -24,28 +24,28 @@ abbrev pub place : ℕ → ℕ → Place
 place start n = record { start = start; len = n }
 
 -- document 01's numbers for the ways in which a tag fails: 5, "no known tag"; 6, "a bad parameter"
-abbrev pub parsedItem : Parsed → Item
+abbrev pub parsedItem : Parsed → Said
 parsedItem (Good v) = Is v
 parsedItem Unsupported = Fails 5
 parsedItem Bad = Fails 6
 
 -- a slice from [ to ]: the tag between them, whose bytes end at its ]
-unfoldable pub tagItem : ℕ → List ℕ → Item
+unfoldable pub tagItem : ℕ → List ℕ → Said
 tagItem at s = pick (leb 2 (length s)) (parsedItem (tagValue (at + (length s - 1)) (take (length s - 1 - 1) (drop 1 s)))) (Fails 5)
 
 -- "Text holds code points 1 to 255 (Latin-1)", else 7
-unfoldable pub textItem : ℕ → List ℕ → Item
+unfoldable pub textItem : ℕ → List ℕ → Said
 textItem at s = pick (allLatin1 (codes s)) (Is (Text (place at (length s)))) (Fails 7)
 
 -- [[ and ]] are texts of one byte; a stray bracket is no known tag
-abbrev pub shapeItem : Shape → ℕ → List ℕ → Item
+abbrev pub shapeItem : Shape → ℕ → List ℕ → Said
 shapeItem Bracket at s = Is (Text (place at 1))
 shapeItem Tag at s = tagItem at s
 shapeItem Stray at s = Fails 5
 shapeItem TextShape at s = textItem at s
 
 -- `Value::try_from`: the slice s, which starts at a place of the message
-unfoldable pub itemOf : ℕ → List ℕ → Item
+unfoldable pub itemOf : ℕ → List ℕ → Said
 itemOf at s = shapeItem (shapeOf s) at s
 
 -- a refusal with its number and place; its detail is 0
@@ -53,7 +53,7 @@ abbrev pub refused : ℕ → ℕ → ℕ → Reading
 refused n start len = Refused (refusal n start len 0)
 
 -- "5 to 8 carry their slice's place"
-abbrev pub itemReading : Item → ℕ → ℕ → Reading
+abbrev pub itemReading : Said → ℕ → ℕ → Reading
 itemReading (Is v) at n = Slice (place at n) v
 itemReading (Fails k) at n = refused k at n
 

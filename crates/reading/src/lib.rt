@@ -10,7 +10,7 @@ use value::Place;
 use value::Value;
 
 // What a slice says: its value, or the number of its refusal.
-pub enum Item {
+pub enum Said {
     Is(Value),
     Fails(u8),
 }
@@ -22,18 +22,18 @@ pub enum Reading {
     Refused(Refusal),
 }
 
-fn parsed_item(p: Parsed) -> Item
+fn parsed_item(p: Parsed) -> Said
     ensures { λ r. ⌜ r ≡ parsedItem p ⌝ }
 {
     match p {
-        Parsed::Good(v) => Item::Is(v),
-        Parsed::Unsupported => Item::Fails(5),
-        Parsed::Bad => Item::Fails(6),
+        Parsed::Good(v) => Said::Is(v),
+        Parsed::Unsupported => Said::Fails(5),
+        Parsed::Bad => Said::Fails(6),
     }
 }
 
 // A slice from [ to ].
-fn tag_item(at: usize, s: &[u8]) -> Item
+fn tag_item(at: usize, s: &[u8]) -> Said
     requires { ⌜ at + length (now s) ≤ 65535 ⌝ }
     ensures { λ r. ⌜ r ≡ tagItem at (now (s .entry)) ⌝ }
 {
@@ -41,35 +41,35 @@ fn tag_item(at: usize, s: &[u8]) -> Item
         let last = s.len() - 1;
         return parsed_item(parse::parse_tag(&s[1..last], at + last));
     }
-    Item::Fails(5)
+    Said::Fails(5)
 }
 
-fn text_item(at: usize, s: &[u8]) -> Item
+fn text_item(at: usize, s: &[u8]) -> Said
     requires { ⌜ at + length (now s) ≤ 65535 ⌝ }
     ensures { λ r. ⌜ r ≡ textItem at (now (s .entry)) ⌝ }
 {
     if utf8::latin1(s) {
-        return Item::Is(Value::Text(Place {
+        return Said::Is(Value::Text(Place {
             start: at as u16,
             len: s.len() as u16,
         }));
     }
-    Item::Fails(7)
+    Said::Fails(7)
 }
 
 // `Value::try_from`: the slice s, which starts at a place of the message.
-pub fn item_of(at: usize, s: &[u8]) -> Item
+pub fn item_of(at: usize, s: &[u8]) -> Said
     requires { ⌜ at + length (now s) ≤ 65535 ⌝ }
     ensures { λ r. ⌜ r ≡ itemOf at (now (s .entry)) ⌝ }
 {
     let shape = token::shape_of(s);
     match shape {
-        Shape::Bracket => Item::Is(Value::Text(Place {
+        Shape::Bracket => Said::Is(Value::Text(Place {
             start: at as u16,
             len: 1,
         })),
         Shape::Tag => tag_item(at, s),
-        Shape::Stray => Item::Fails(5),
+        Shape::Stray => Said::Fails(5),
         Shape::Text => text_item(at, s),
     }
 }
@@ -95,8 +95,8 @@ fn slice_reading(at: usize, s: &[u8]) -> Reading
     let start = at as u16;
     let len = s.len() as u16;
     match item {
-        Item::Is(v) => Reading::Slice(Place { start, len }, v),
-        Item::Fails(number) => Reading::Refused(Refusal {
+        Said::Is(v) => Reading::Slice(Place { start, len }, v),
+        Said::Fails(number) => Reading::Refused(Refusal {
             number,
             start,
             length: len,

@@ -13,7 +13,7 @@ use lib.Seq.{length-take-le, drop-cons, take-at, drop-at, drop-append-le, drop-s
 use borrow.Author.Tests.{ltb-true, ltb-false}
 use Rattle.base.specs.Pick.{pick}
 use Rattle.layout.specs.declared.Span.{Span}
-use Rattle.layout.specs.Place.{orElse}
+use Rattle.layout.specs.Placing.{orElse}
 use Rattle.rows.specs.declared.Fault.{Fault}
 use Rattle.rows.specs.declared.Row.{Row}
 use Rattle.rows.specs.Measured.{faultOf, earlierOf}

@@ -16,7 +16,7 @@ use Rattle.buffer.proofs.Laws.{put-then, put-whole}
 use Rattle.refusal.specs.declared.Refusal.{Refusal}
 use Rattle.refusal.specs.Refusals.{refusal}
 use Rattle.sentence.specs.Words.{words}
-use Rattle.sentence.specs.Sentence.{digits, width, decimal, sentence, telling, after}
+use Rattle.sentence.specs.Sentence.{digits, digitCount, decimal, sentence, telling, bufferAfter}
 use Rattle.sentence.specs.Texts.{PutMost}
 use Rattle.sentence.specs.declared.Told.{Told}
 use Rattle.sentence.specs.declared.Told.the-variants.{Length, Refused}
@@ -29,9 +29,9 @@ digits-length (suc w) n = length-append (digits w (n / 10)) ((48 + n % 10) ∷ [
     more : (w k : ℕ) → k ≡ w → k + 1 ≡ suc w
     more w k e = omega arith
 
-pub decimal-length : (n : ℕ) → length (decimal n) ≡ width n
+pub decimal-length : (n : ℕ) → length (decimal n) ≡ digitCount n
 unfolding decimal
-decimal-length n = digits-length (width n) n
+decimal-length n = digits-length (digitCount n) n
 
 digits-last : (i j m : ℕ) → j ≡ suc i → digits i (m / 10) ++ ((48 + m % 10) ∷ []) ≡ digits j m
 unfolding digits
@@ -59,7 +59,7 @@ sets-last (x ∷ xs) l at d =
 
 -- the digits of m from place at up to k are still to be written
 pub record Counting (at n : ℕ) (lent now : List ℕ) (end m k : ℕ) : Type 0 where
-  pub ends : end ≡ at + width n
+  pub ends : end ≡ at + digitCount n
   pub from : at ≤ k
   pub upto : k ≤ end
   pub room : end ≤ length lent
@@ -67,7 +67,7 @@ pub record Counting (at n : ℕ) (lent now : List ℕ) (end m k : ℕ) : Type 0 
   pub rest : sets now at (digits (k - at) m) ≡ sets lent at (decimal n)
 
 module _ {at n : ℕ} {lent : List ℕ} where
-  pub count-start : {w : ℕ} → w ≡ width n → w ≤ 5 → at + 5 ≤ length lent → Counting at n lent lent (at + w) n (at + w)
+  pub count-start : {w : ℕ} → w ≡ digitCount n → w ≤ 5 → at + 5 ≤ length lent → Counting at n lent lent (at + w) n (at + w)
   unfolding decimal
   count-start {w} e s h =
       record {
@@ -107,7 +107,7 @@ module _ {at n : ℕ} {lent : List ℕ} where
   count-end {now} {end} {m} {k} z h =
       record { ends = z .ends ∙ ap (λ (j : ℕ). at + j) (sym size-of); bytes = none-left (k - at) (omega (arith, z .from)) ∙ z .rest; size = z .size }
     where
-      size-of : length (decimal n) ≡ width n
+      size-of : length (decimal n) ≡ digitCount n
       size-of = decimal-length n
 
       none-left : (i : ℕ) → i ≡ 0 → now ≡ sets now at (digits i m)
@@ -115,9 +115,9 @@ module _ {at n : ℕ} {lent : List ℕ} where
 
 -- ---- a text and a number after it
 
-pub width-le : (n : ℕ) → width n ≤ 5
-unfolding width
-width-le n = four (ltb n 10) (ltb n 100) (ltb n 1000) (ltb n 10000)
+pub digit-count-le : (n : ℕ) → digitCount n ≤ 5
+unfolding digitCount
+digit-count-le n = four (ltb n 10) (ltb n 100) (ltb n 1000) (ltb n 10000)
   where
     four : (a b c d : Bool) → pick a 1 (pick b 2 (pick c 3 (pick d 4 5))) ≤ 5
     four true b c d = omega arith
@@ -126,9 +126,9 @@ width-le n = four (ltb n 10) (ltb n 100) (ltb n 1000) (ltb n 10000)
     four false false false true = omega arith
     four false false false false = omega arith
 
-pub width-small : (n : ℕ) → n < 1000 → width n ≤ 3
-unfolding width
-width-small n h = three (ltb n 10) (ltb n 100) (ltb n 1000) (lt-ltb n 1000 h)
+pub digit-count-small : (n : ℕ) → n < 1000 → digitCount n ≤ 3
+unfolding digitCount
+digit-count-small n h = three (ltb n 10) (ltb n 100) (ltb n 1000) (lt-ltb n 1000 h)
   where
     three : (a b c : Bool) → c ≡ true → pick a 1 (pick b 2 (pick c 3 (pick (ltb n 10000) 4 5))) ≤ 3
     three true b c e = omega arith
@@ -136,13 +136,13 @@ width-small n h = three (ltb n 10) (ltb n 100) (ltb n 1000) (lt-ltb n 1000 h)
     three false false c e = rw e (omega arith)
 
 pub field-put : (n : ℕ) {at k p : ℕ} {t l l′ l″ : List ℕ} → Put at t l l′ k → Put k (decimal n) l′ l″ p → PutMost (length t + 5) at (t ++ decimal n) l l″ p
-field-put n {at} {k} {p} {t} x y = record { put = put-then x y; few = omega (arith, x .ends, y .ends, decimal-length n, width-le n) }
+field-put n {at} {k} {p} {t} x y = record { put = put-then x y; few = omega (arith, x .ends, y .ends, decimal-length n, digit-count-le n) }
 
 pub number-put : {n m p : ℕ} {l l′ : List ℕ} → m ≡ n → m < 256 → PutMost (length (ascii "Refusal ") + 5) 0 (ascii "Refusal " ++ decimal m) l l′ p
     → PutMost 11 0 (ascii "Refusal " ++ decimal n) l l′ p
 number-put {n} {m} {p} {l} {l′} e h x =
     subst (λ (k : ℕ). PutMost 11 0 (ascii "Refusal " ++ decimal k) l l′ p) e
-    (record { put = x .put; few = omega (arith, x .put .ends, decimal-length m, width-small m (omega arith)) })
+    (record { put = x .put; few = omega (arith, x .put .ends, decimal-length m, digit-count-small m (omega arith)) })
 
 -- ---- the sentence
 
@@ -151,8 +151,8 @@ regroup : (a b c d e f g h i j k : List ℕ) → (a ++ b) ++ (c ++ d) ++ (e ++ f
 regroup a b c d e f g h i j k = simp append-assoc
 
 module _ (r : Refusal) (l : List ℕ) where
-  pub sentence-short : length l < 96 → (Refused (refusal 16 0 0 0) ≡ telling r l) × (l ≡ after r l)
-  unfolding telling after
+  pub sentence-short : length l < 96 → (Refused (refusal 16 0 0 0) ≡ telling r l) × (l ≡ bufferAfter r l)
+  unfolding telling bufferAfter
   sentence-short h = rw (lt-ltb (length l) 96 h) (refl, refl)
 
   pub sentence-told : {l₁ l₂ l₃ l₄ l₅ l₆ l₇ : List ℕ} {a b c d e f g : ℕ} → 96 ≤ length l
@@ -163,8 +163,8 @@ module _ (r : Refusal) (l : List ℕ) where
       → Put d (ascii ": ") l₄ l₅ e
       → PutMost 40 e (words (r .number)) l₅ l₆ f
       → Put f (ascii ".") l₆ l₇ g
-      → (Length g ≡ telling r l) × (l₇ ≡ after r l)
-  unfolding telling after sentence
+      → (Length g ≡ telling r l) × (l₇ ≡ bufferAfter r l)
+  unfolding telling bufferAfter sentence
   sentence-told {l₁} {l₂} {l₃} {l₄} {l₅} {l₆} {l₇} {a} {b} {c} {d} {e} {f} {g} h p₁ p₂ p₃ p₄ p₅ p₆ p₇ =
       rw (le-ltb (length l) 96 h) (
         ap Length (whole .ends ∙ none-before (length (sentence r))),

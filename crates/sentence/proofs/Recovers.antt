@@ -17,9 +17,9 @@ use Rattle.number.specs.declared.Number.the-variants.{Is, Refused}
 use Rattle.number.specs.Number.{digitOf, readFrom, readDigits, readNumber}
 use Rattle.refusal.specs.declared.Refusal.{Refusal}
 use Rattle.sentence.specs.Words.{words, table, unknown}
-use Rattle.sentence.specs.Sentence.{digits, width, decimal, sentence}
-use Rattle.sentence.specs.Recovered.{digit, leading, with, field, recovered, ink, ended, Sentenced, Worded}
-use Rattle.sentence.proofs.Laws.{digits-length, decimal-length, width-le, width-small}
+use Rattle.sentence.specs.Sentence.{digits, digitCount, decimal, sentence}
+use Rattle.sentence.specs.Recovered.{digit, leading, with, tellsNumber, recovered, ink, ended, Sentenced, Worded}
+use Rattle.sentence.proofs.Laws.{digits-length, decimal-length, digit-count-le, digit-count-small}
 use Rattle.sentence.proofs.Texts.{all, all-here, all-there, all-at, words-short}
 
 -- ---- the number reader reads what the decimal writer wrote
@@ -56,9 +56,9 @@ read-digits max (suc w) n h g =
     read-last max 0 (n / 10) (n % 10) (digits w (n / 10)) (read-digits max w (n / 10) (omega arith) (omega arith)) (omega arith) (omega arith)
     ∙ ap Is (omega arith)
 
-width-most : (n : ℕ) → n < 100000 → n < tens (width n)
-unfolding width tens
-width-most n h = four (ltb n 10) (ltb n 100) (ltb n 1000) (ltb n 10000) (ltb-true n 10) (ltb-true n 100) (ltb-true n 1000) (ltb-true n 10000)
+digit-count-most : (n : ℕ) → n < 100000 → n < tens (digitCount n)
+unfolding digitCount tens
+digit-count-most n h = four (ltb n 10) (ltb n 100) (ltb n 1000) (ltb n 10000) (ltb-true n 10) (ltb-true n 100) (ltb-true n 1000) (ltb-true n 10000)
   where
     four : (a b c d : Bool) → (a ≡ true → n < 10) → (b ≡ true → n < 100) → (c ≡ true → n < 1000) → (d ≡ true → n < 10000)
         → n < tens (pick a 1 (pick b 2 (pick c 3 (pick d 4 5))))
@@ -88,9 +88,9 @@ number-digits max [] h g = absurd (omega arith)
 number-digits max (b ∷ l) h g =
     rw (ne-eqb b 43 (λ e. absurd (omega (arith, e, leb-true 48 b (all-here (leb 48 b) (leb b 57) (all-here (digit b) (all digit l) h))))))
 
-width-some : (n : ℕ) → 0 < width n
-unfolding width
-width-some n = four (ltb n 10) (ltb n 100) (ltb n 1000) (ltb n 10000)
+digit-count-some : (n : ℕ) → 0 < digitCount n
+unfolding digitCount
+digit-count-some n = four (ltb n 10) (ltb n 100) (ltb n 1000) (ltb n 10000)
   where
     four : (a b c d : Bool) → 0 < pick a 1 (pick b 2 (pick c 3 (pick d 4 5)))
     four true b c d = omega arith
@@ -103,8 +103,8 @@ width-some n = four (ltb n 10) (ltb n 100) (ltb n 1000) (ltb n 10000)
 pub read-decimal : (max n : ℕ) → n < 100000 → n ≤ max → readNumber 10 max (decimal n) ≡ Is n
 unfolding decimal
 read-decimal max n h g =
-    number-digits max (digits (width n) n) (all-digits (width n) n) (omega (arith, digits-length (width n) n, width-some n))
-    ∙ read-digits max (width n) n (width-most n h) g
+    number-digits max (digits (digitCount n) n) (all-digits (digitCount n) n) (omega (arith, digits-length (digitCount n) n, digit-count-some n))
+    ∙ read-digits max (digitCount n) n (digit-count-most n h) g
 
 -- ---- its bytes
 
@@ -118,7 +118,7 @@ ink-digits (suc w) n = all-append ink (digits w (n / 10)) ((48 + n % 10) ∷ [])
 
 ink-decimal : (n : ℕ) → all ink (decimal n) ≡ true
 unfolding decimal
-ink-decimal n = ink-digits (width n) n
+ink-decimal n = ink-digits (digitCount n) n
 
 ink-words : (n : ℕ) → all ink (words n) ≡ true
 unfolding words table unknown
@@ -149,12 +149,12 @@ leading-at (x ∷ xs) b l h g = rw (all-here (digit x) (all digit xs) h) (ap (λ
 
 all-decimal : (n : ℕ) → all digit (decimal n) ≡ true
 unfolding decimal
-all-decimal n = all-digits (width n) n
+all-decimal n = all-digits (digitCount n) n
 
-field-is : (max k n b : ℕ) (l : List ℕ) (f : ℕ → List ℕ → Option Refusal) → n < 100000 → n ≤ max → digit b ≡ false
-    → field max k (decimal n ++ (b ∷ l)) f ≡ f n (drop k (b ∷ l))
-unfolding field
-field-is max k n b l f h g q =
+tells-number : (max k n b : ℕ) (l : List ℕ) (f : ℕ → List ℕ → Option Refusal) → n < 100000 → n ≤ max → digit b ≡ false
+    → tellsNumber max k (decimal n ++ (b ∷ l)) f ≡ f n (drop k (b ∷ l))
+unfolding tellsNumber
+tells-number max k n b l f h g q =
     ap (λ (d : List ℕ). with (readNumber 10 max d) (λ j. f j (drop (length d + k) (decimal n ++ (b ∷ l))))) (leading-at (decimal n) b l decimal-digits q)
     ∙ ap (λ (x : Number). with x (λ j. f j (drop (length (decimal n) + k) (decimal n ++ (b ∷ l))))) (read-decimal max n h g)
     ∙ ap (f n) (drop-append-add (decimal n) (b ∷ l) k)
@@ -187,20 +187,20 @@ module _ (r : Refusal) (a : r .number < 256) (b : r .start < 65536) (c : r .leng
   unfolding recovered
   recovers =
       ap recovered whole
-      ∙ field-is 255 9 (r .number) 32 _ _ (omega arith) (omega arith) refl
-      ∙ field-is 65535 9 (r .start) 44 _ _ (omega arith) (omega arith) refl
-      ∙ field-is 65535 9 (r .length) 44 _ _ (omega arith) (omega arith) refl
-      ∙ field-is 65535 2 (r .detail) 58 _ _ (omega arith) (omega arith) refl
+      ∙ tells-number 255 9 (r .number) 32 _ _ (omega arith) (omega arith) refl
+      ∙ tells-number 65535 9 (r .start) 44 _ _ (omega arith) (omega arith) refl
+      ∙ tells-number 65535 9 (r .length) 44 _ _ (omega arith) (omega arith) refl
+      ∙ tells-number 65535 2 (r .detail) 58 _ _ (omega arith) (omega arith) refl
 
   -- 8 + 3 + 9 + 5 + 9 + 5 + 9 + 5 + 2 + 40 + 1
   room : length (sentence r) ≤ 96
   room =
       let e : length (sentence r)
       ≡ 8 +
-      (width (r .number) + (9 + (width (r .start) + (9 + (width (r .length) + (9 + (width (r .detail) + (2 + (length (words (r .number)) + 1)))))))))
+      (digitCount (r .number) + (9 + (digitCount (r .start) + (9 + (digitCount (r .length) + (9 + (digitCount (r .detail) + (2 + (length (words (r .number)) + 1)))))))))
       =
       ap length whole ∙ simp (length-append, decimal-length) (omega arith) in
-      omega (arith, e, width-small (r .number) (omega arith), width-le (r .start), width-le (r .length), width-le (r .detail), words-short (r .number))
+      omega (arith, e, digit-count-small (r .number) (omega arith), digit-count-le (r .start), digit-count-le (r .length), digit-count-le (r .detail), words-short (r .number))
 
   plain : ended (sentence r) ≡ true
   plain =

@@ -32,16 +32,16 @@ with (Is n) f = f n
 with Refused f = none
 
 -- the number at the start of a text, of at most max; f goes on with what follows it after n bytes
-unfoldable pub field : ℕ → ℕ → List ℕ → (ℕ → List ℕ → Option Refusal) → Option Refusal
-field max n s f = with (readNumber 10 max (leading s)) (λ k. f k (drop (length (leading s) + n) s))
+unfoldable pub tellsNumber : ℕ → ℕ → List ℕ → (ℕ → List ℕ → Option Refusal) → Option Refusal
+tellsNumber max n s f = with (readNumber 10 max (leading s)) (λ k. f k (drop (length (leading s) + n) s))
 
 -- the four numbers of a sentence, each after the bytes before it: "Refusal ", " at byte ", ", length ", ", detail "
 unfoldable pub recovered : List ℕ → Option Refusal
 recovered s =
-    field 255 9 (drop 8 s)
-    (λ number s. field 65535 9 s
-    (λ start s. field 65535 9 s
-    (λ len s. field 65535 2 s
+    tellsNumber 255 9 (drop 8 s)
+    (λ number s. tellsNumber 65535 9 s
+    (λ start s. tellsNumber 65535 9 s
+    (λ len s. tellsNumber 65535 2 s
     (λ detail s. some (refusal number start len detail)))))
 
 -- ---- its bytes

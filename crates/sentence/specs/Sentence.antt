@@ -17,12 +17,12 @@ digits zero n = []
 digits (suc w) n = digits w (n / 10) ++ ((48 + n % 10) ∷ [])
 
 -- how many digits a number of 16 bits has
-unfoldable pub width : ℕ → ℕ
-width n = pick (ltb n 10) 1 (pick (ltb n 100) 2 (pick (ltb n 1000) 3 (pick (ltb n 10000) 4 5)))
+unfoldable pub digitCount : ℕ → ℕ
+digitCount n = pick (ltb n 10) 1 (pick (ltb n 100) 2 (pick (ltb n 1000) 3 (pick (ltb n 10000) 4 5)))
 
 -- "decimals without leading zeros"
 unfoldable pub decimal : ℕ → List ℕ
-decimal n = digits (width n) n
+decimal n = digits (digitCount n) n
 
 -- ""Refusal 13 at byte 8, length 2, detail 0: ", .. then at most 40 ASCII bytes of words .., ended by the only full stop"
 unfoldable pub sentence : Refusal → List ℕ
@@ -39,5 +39,5 @@ unfoldable pub telling : Refusal → List ℕ → Told
 telling r lent = pick (ltb (length lent) 96) (Refused (refusal 16 0 0 0)) (Length (length (sentence r)))
 
 -- the buffer after the call: "Bytes past the sentence stay"
-unfoldable pub after : Refusal → List ℕ → List ℕ
-after r lent = pick (ltb (length lent) 96) lent (sentence r ++ drop (length (sentence r)) lent)
+unfoldable pub bufferAfter : Refusal → List ℕ → List ℕ
+bufferAfter r lent = pick (ltb (length lent) 96) lent (sentence r ++ drop (length (sentence r)) lent)

@@ -7,7 +7,7 @@ ghost use Rattle.part.specs.Part.{past};
 ghost use Rattle.base.specs.Text.{ascii};
 ghost use Rattle.buffer.specs.Put.{Put};
 ghost use Rattle.sentence.specs.Words.{words};
-ghost use Rattle.sentence.specs.Sentence.{width as widthOf, decimal, telling, after};
+ghost use Rattle.sentence.specs.Sentence.{digitCount, decimal, telling, bufferAfter};
 ghost use Rattle.sentence.specs.Texts.{skip, entryIn, From, PutMost};
 use refusal::Refusal;
 
@@ -18,8 +18,8 @@ pub enum Told {
 }
 
 // How many digits a number has.
-fn width(n: u16) -> usize
-    ensures { λ r. ⌜ (r ≡ widthOf n) × (r ≤ 5) ⌝ }
+fn digit_count(n: u16) -> usize
+    ensures { λ r. ⌜ (r ≡ digitCount n) × (r ≤ 5) ⌝ }
 {
     if n < 10 {
         return 1;
@@ -41,7 +41,7 @@ fn put_decimal(buffer: &mut [u8], at: usize, n: u16) -> usize
     requires { ⌜ at + 5 ≤ length (now buffer) ⌝ }
     ensures { λ r. ⌜ Put at (decimal n) (now (buffer .entry)) (now (buffer .exit)) r ⌝ }
 {
-    let end = at + width(n);
+    let end = at + digit_count(n);
     let mut m = n;
     let mut k = end;
     while at < k {
@@ -137,7 +137,7 @@ fn put_number(buffer: &mut [u8], number: u8) -> usize
 
 // The refusal's sentence in the lent buffer: its length.
 pub fn sentence(r: Refusal, buffer: &mut [u8]) -> Told
-    ensures { λ t. ⌜ (t ≡ telling r (now (buffer .entry))) × (now (buffer .exit) ≡ after r (now (buffer .entry))) ⌝ }
+    ensures { λ t. ⌜ (t ≡ telling r (now (buffer .entry))) × (now (buffer .exit) ≡ bufferAfter r (now (buffer .entry))) ⌝ }
 {
     if buffer.len() < 96 {
         return Told::Refused(Refusal {

@@ -14,7 +14,7 @@ put-decimal-spec =
     tie.close (tie.spec
     Inv-loop
     μ-loop
-    (λ c κs. search needs)  -- width-requires
+    (λ c κs. search needs)  -- digit-count-requires
     (λ c. search needs)  -- add-end
     (λ c. search (count-start, needs))  -- loop-holds
     (λ c. search needs)  -- sub-k

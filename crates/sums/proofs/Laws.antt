@@ -12,14 +12,14 @@ use Rattle.value.specs.declared.OptNum.{OptNum}
 use Rattle.value.specs.declared.OptNum.the-variants.{Some, None}
 use Rattle.layout.specs.declared.Entry.{Entry}
 use Rattle.layout.specs.Types.{unwrapOr, Meter}
-use Rattle.layout.specs.Place.{orElse, firstFault, keep, select, same, due, gap, before, after}
+use Rattle.layout.specs.Placing.{orElse, firstFault, keep, select, same, due, gap, sumBefore, sumAfter}
 use Rattle.rows.specs.declared.Fault.{Fault}
 use Rattle.rows.specs.declared.Row.{Row}
 use Rattle.rows.specs.Rows.{cells, RowRoom, rowAt, rowsOf}
 use Rattle.rows.specs.Measured.{flag, faultNumber, faultDetail, rowOf, faultOf, RowTells}
 use Rattle.rows.proofs.Laws.{cells-next, cells-done, earlier-is}
-use Rattle.across.specs.declared.Sums.{Sums}
-use Rattle.across.specs.Sums.{sameRow, gapOf, firstOf, joinedBy, joined, advanced, sums, noneYet, GrownTo, SumsOf}
+use Rattle.sums.specs.declared.Sums.{Sums}
+use Rattle.sums.specs.Sums.{sameRow, gapOf, firstOf, joinedBy, joined, advanced, sums, noneYet, GrownTo, SumsOf}
 
 -- ---- the functions
 
@@ -133,8 +133,8 @@ module _ (m : Meter) (p : RowTells m) where
       ∙ ap (orElse (faultOf (o .fault) (o .detail))) (p .whole e)
 
   record Agree (n : ℕ) (o : Sums) (q : Option Entry) (l : List Entry) (s : Sums) : Type 0 where
-    pub before : s .before ≡ o .before + before m n q l
-    pub after : s .after ≡ o .after + after m n q l
+    pub before : s .before ≡ o .before + sumBefore m n q l
+    pub after : s .after ≡ o .after + sumAfter m n q l
     pub fault : faultOf (s .fault) (s .detail) ≡ orElse (faultOf (o .fault) (o .detail)) (firstFault (m .fault) l)
 
   agree-none : (n : ℕ) (o : Sums) (q : Option Entry) → Agree n o q [] o
@@ -171,13 +171,13 @@ module _ (m : Meter) (p : RowTells m) where
       step false ih = ih o q k
 
   -- what stands before a span in its group, what from there on, and the group's first fault
-  pub across-before : (es : List Entry) (e : Entry) → sums (rowOf m e) noneYet (map (rowOf m) es) .before ≡ before m (e .state .span) none (select (same e) es)
-  across-before es e = omega (arith, agree e noneYet none es refl .before)
+  pub sums-before : (es : List Entry) (e : Entry) → sums (rowOf m e) noneYet (map (rowOf m) es) .before ≡ sumBefore m (e .state .span) none (select (same e) es)
+  sums-before es e = omega (arith, agree e noneYet none es refl .before)
 
-  pub across-after : (es : List Entry) (e : Entry) → sums (rowOf m e) noneYet (map (rowOf m) es) .after ≡ after m (e .state .span) none (select (same e) es)
-  across-after es e = omega (arith, agree e noneYet none es refl .after)
+  pub sums-after : (es : List Entry) (e : Entry) → sums (rowOf m e) noneYet (map (rowOf m) es) .after ≡ sumAfter m (e .state .span) none (select (same e) es)
+  sums-after es e = omega (arith, agree e noneYet none es refl .after)
 
-  pub across-fault : (es : List Entry) (e : Entry)
+  pub sums-fault : (es : List Entry) (e : Entry)
       → (let s : Sums = sums (rowOf m e) noneYet (map (rowOf m) es) in faultOf (s .fault) (s .detail) ≡ firstFault (m .fault) (select (same e) es))
   unfolding orElse
-  across-fault es e = agree e noneYet none es refl .fault
+  sums-fault es e = agree e noneYet none es refl .fault

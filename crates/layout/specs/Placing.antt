@@ -68,13 +68,13 @@ gap m none e = 0
 gap m (some p) e = due m p e
 
 -- `offset_horiz`: of a group, with the span before it, what stands before span number n, and what from there on
-abbrev pub before : Meter → ℕ → Option Entry → List Entry → ℕ
-before m n p [] = 0
-before m n p (e ∷ es) = pick (leb (e .state .span) n) (gap m p e) 0 + (pick (ltb (e .state .span) n) (m .width e) 0 + before m n (some e) es)
+abbrev pub sumBefore : Meter → ℕ → Option Entry → List Entry → ℕ
+sumBefore m n p [] = 0
+sumBefore m n p (e ∷ es) = pick (leb (e .state .span) n) (gap m p e) 0 + (pick (ltb (e .state .span) n) (m .width e) 0 + sumBefore m n (some e) es)
 
-abbrev pub after : Meter → ℕ → Option Entry → List Entry → ℕ
-after m n p [] = 0
-after m n p (e ∷ es) = pick (leb (e .state .span) n) 0 (gap m p e) + (pick (ltb (e .state .span) n) 0 (m .width e) + after m n (some e) es)
+abbrev pub sumAfter : Meter → ℕ → Option Entry → List Entry → ℕ
+sumAfter m n p [] = 0
+sumAfter m n p (e ∷ es) = pick (leb (e .state .span) n) 0 (gap m p e) + (pick (ltb (e .state .span) n) 0 (m .width e) + sumAfter m n (some e) es)
 
 -- `span_x`: 2 left, 3 centre, 4 right
 abbrev pub placeX : ℕ → ℕ → Rect → ℕ → ℕ → ℕ
@@ -154,10 +154,10 @@ module _ (s : Board) (r : Rect) (es : List Entry) where
   page e = select (samePage e) es
 
   unfoldable pub beforeOf : Entry → ℕ
-  beforeOf e = before (s .meter) (e .state .span) none (group e)
+  beforeOf e = sumBefore (s .meter) (e .state .span) none (group e)
 
   unfoldable pub afterOf : Entry → ℕ
-  afterOf e = after (s .meter) (e .state .span) none (group e)
+  afterOf e = sumAfter (s .meter) (e .state .span) none (group e)
 
   unfoldable pub linesOf : Entry → List Line
   linesOf e = lines (s .meter) [] (page e)

@@ -1,8 +1,8 @@
 use Prim.Native.Nat.{_-_}
 use borrow.Author.Needs.{needs}
-use Rattle.across.proofs.Laws.{Summing, sums-start, sums-on, sums-end}
-use Rattle.across.proofs.offset_horiz.Statement.{statement}
-use Rattle.across.proofs.offset_horiz.Tie as tie
+use Rattle.sums.proofs.Laws.{Summing, sums-start, sums-on, sums-end}
+use Rattle.sums.proofs.offset_horiz.Statement.{statement}
+use Rattle.sums.proofs.offset_horiz.Tie as tie
 
 abbrev Inv-loop : tie.InvT-loop
 Inv-loop rows n r o₀ i₀ o i = Summing rows n r o i

@@ -3,7 +3,7 @@ ghost use mathlib.Core.Path.{_≡_};
 ghost use Prim.Native.Nat.{_+_, _/_, _≤_, _<_};
 ghost use Rattle.base.specs.Pick.{pick};
 ghost use Rattle.rows.specs.Rows.{RowRoom};
-ghost use Rattle.across.specs.Sums.{sameRow, gapOf, joined, advanced, GrownTo, SumsOf};
+ghost use Rattle.sums.specs.Sums.{sameRow, gapOf, joined, advanced, GrownTo, SumsOf};
 use rows::Fault;
 use rows::Row;
 

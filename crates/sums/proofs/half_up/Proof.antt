@@ -1,8 +1,8 @@
 use mathlib.Core.Path.{refl}
 use native.Mathlib.Omega.{arith}
 use borrow.Author.Needs.{needs}
-use Rattle.across.proofs.half_up.Statement.{statement}
-use Rattle.across.proofs.half_up.Tie as tie
+use Rattle.sums.proofs.half_up.Statement.{statement}
+use Rattle.sums.proofs.half_up.Tie as tie
 
 pub half-up-spec : {M : Type 1} → statement M
 half-up-spec =

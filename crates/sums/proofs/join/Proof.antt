@@ -1,7 +1,7 @@
 use borrow.Author.Needs.{needs}
-use Rattle.across.proofs.Laws.{joins}
-use Rattle.across.proofs.join.Statement.{statement}
-use Rattle.across.proofs.join.Tie as tie
+use Rattle.sums.proofs.Laws.{joins}
+use Rattle.sums.proofs.join.Statement.{statement}
+use Rattle.sums.proofs.join.Tie as tie
 
 pub join-spec : {M : Type 1} → statement M
 join-spec =

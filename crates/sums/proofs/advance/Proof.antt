@@ -1,7 +1,7 @@
 use borrow.Author.Needs.{needs}
-use Rattle.across.proofs.Laws.{advance-join, advance-stay}
-use Rattle.across.proofs.advance.Statement.{statement}
-use Rattle.across.proofs.advance.Tie as tie
+use Rattle.sums.proofs.Laws.{advance-join, advance-stay}
+use Rattle.sums.proofs.advance.Statement.{statement}
+use Rattle.sums.proofs.advance.Tie as tie
 
 pub advance-spec : {M : Type 1} → statement M
 advance-spec =

@@ -1,7 +1,7 @@
 use borrow.Author.Needs.{needs}
-use Rattle.across.proofs.Laws.{span-ways}
-use Rattle.across.proofs.matches_span.Statement.{statement}
-use Rattle.across.proofs.matches_span.Tie as tie
+use Rattle.sums.proofs.Laws.{span-ways}
+use Rattle.sums.proofs.matches_span.Statement.{statement}
+use Rattle.sums.proofs.matches_span.Tie as tie
 
 pub matches-span-spec : {M : Type 1} → statement M
 matches-span-spec =

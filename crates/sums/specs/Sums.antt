@@ -9,7 +9,7 @@ use Rattle.rows.specs.declared.Fault.{Fault}
 use Rattle.rows.specs.declared.Row.{Row}
 use Rattle.rows.specs.Rows.{rowsOf}
 use Rattle.rows.specs.Measured.{earlierOf}
-use Rattle.across.specs.declared.Sums.{Sums}
+use Rattle.sums.specs.declared.Sums.{Sums}
 
 -- `matches_span`
 abbrev pub sameRow : Row → Row → Bool

@@ -1,7 +1,7 @@
 use borrow.Author.Needs.{needs}
-use Rattle.across.proofs.Laws.{gap-ways}
-use Rattle.across.proofs.gap.Statement.{statement}
-use Rattle.across.proofs.gap.Tie as tie
+use Rattle.sums.proofs.Laws.{gap-ways}
+use Rattle.sums.proofs.gap.Statement.{statement}
+use Rattle.sums.proofs.gap.Tie as tie
 
 pub gap-spec : {M : Type 1} → statement M
 gap-spec =
