@@ -176,7 +176,8 @@ pub extern "C" fn kambelohi_sentence(
     detail: u16,
     buffer: &mut [u8],
 ) -> SentenceAnswer
-    ensures { λ r. ⌜ (r ≡ sentenceAnswer (tellingOf (refusalOf number start length detail) (now (buffer .entry)))) × (now (buffer .exit) ≡ bufferOf (refusalOf number start length detail) (now (buffer .entry))) ⌝ }
+    ensures { λ r. ⌜ (r ≡ sentenceAnswer (tellingOf (refusalOf number start length detail) (now (buffer .entry))))
+        × (now (buffer .exit) ≡ bufferOf (refusalOf number start length detail) (now (buffer .entry))) ⌝ }
 {
     let r = Refusal {
         number,

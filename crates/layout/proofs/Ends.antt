@@ -98,7 +98,8 @@ module _ (file msg : List ℕ) (lent : ℕ → List Span) where
   first-stop i (suc k) h e =
       let q : i + suc k ≡ suc i + k = omega arith in
       stops-or i (i + suc k) (omega arith) h
-      (λ s. subst (λ (j : ℕ). StopsBy file msg lent j) (sym q) (first-stop (suc i) k (up-to (λ n. Shows (answer-at n)) i h s) (subst (λ (j : ℕ). Stops (answer-at j)) q e)))
+      (λ s. subst (λ (j : ℕ). StopsBy file msg lent j) (sym q)
+      (first-stop (suc i) k (up-to (λ n. Shows (answer-at n)) i h s) (subst (λ (j : ℕ). Stops (answer-at j)) q e)))
       (answer-at i) refl
 
   stop-at : (k top : ℕ) → k ≤ top → Stops (answer-at k) → StopsBy file msg lent top

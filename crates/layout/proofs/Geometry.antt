@@ -56,7 +56,10 @@ inside-x j cw r b a w g h f = go (eqb j 2) (eqb j 3)
     x : ℕ
     x = r .left + (r .width - b - a) / 2 + b
 
-    go : (t u : Bool) → (r .left ≤ pick t (r .left + b) (pick u (trunc cw x) (r .left + r .width - a))) × (pick t (r .left + b) (pick u (trunc cw x) (r .left + r .width - a)) + w ≤ r .left + r .width)
+    by : Bool → Bool → ℕ
+    by t u = pick t (r .left + b) (pick u (trunc cw x) (r .left + r .width - a))
+
+    go : (t u : Bool) → (r .left ≤ by t u) × (by t u + w ≤ r .left + r .width)
     go true u = omega arith
     go false true = (trunc-ge cw x (r .left) g (omega arith), omega (arith, trunc-le cw x))
     go false false = omega arith
@@ -134,18 +137,22 @@ from-in n (there {b = c} i) f = omega (arith, from-in (c .state .span) i (f .1))
 before-none : (m : Meter) (k n : ℕ) (p : Option Entry) (es : List Entry) → k ≤ n → From n (spans es) → sumBefore m k p es ≡ 0
 before-none m k n p [] h f = refl
 before-none m k n p (e ∷ es) h f =
-    rw (lt-leb (e .state .span) k (omega arith), le-ltb (e .state .span) k (omega arith)) (omega (arith, before-none m k (e .state .span) (some e) es (omega arith) (f .1)))
+    rw (lt-leb (e .state .span) k (omega arith), le-ltb (e .state .span) k (omega arith))
+    (omega (arith, before-none m k (e .state .span) (some e) es (omega arith) (f .1)))
 
 pub before-next : (m : Meter) (p : Option Entry) {a b : Entry} {es : List Entry} → Next a b es → Rises (spans es)
     → sumBefore m (b .state .span) p es ≡ sumBefore m (a .state .span) p es + (m .width a + due m a b)
 before-next m p (first {a = a} {b = b} {l = l}) f =
-    rw (le-leb (a .state .span) (b .state .span) (omega arith), lt-ltb (a .state .span) (b .state .span) (f .0), le-leb (b .state .span) (b .state .span) (le-refl _), le-ltb (b .state .span) (b .state .span) (le-refl _))
-    (rw (le-leb (a .state .span) (a .state .span) (le-refl _), le-ltb (a .state .span) (a .state .span) (le-refl _), lt-leb (b .state .span) (a .state .span) (f .0), le-ltb (b .state .span) (a .state .span) (omega arith))
-    (omega (arith, before-none m (b .state .span) (b .state .span) (some b) l (le-refl _) (f .1), before-none m (a .state .span) (b .state .span) (some b) l (omega arith) (f .1))))
+    let i : ℕ = a .state .span in
+    let j : ℕ = b .state .span in
+    rw (le-leb i j (omega arith), lt-ltb i j (f .0), le-leb j j (le-refl _), le-ltb j j (le-refl _))
+    (rw (le-leb i i (le-refl _), le-ltb i i (le-refl _), lt-leb j i (f .0), le-ltb j i (omega arith))
+    (omega (arith, before-none m j j (some b) l (le-refl _) (f .1), before-none m i j (some b) l (omega arith) (f .1))))
 before-next m p (later {a = a} {b = b} {c = c} {l = l} i) f =
-    let ha : c .state .span < a .state .span = from-in (c .state .span) (next-left i) f in
-    let hb : c .state .span < b .state .span = from-in (c .state .span) (next-right i) f in
-    rw (le-leb (c .state .span) (a .state .span) (omega arith), lt-ltb (c .state .span) (a .state .span) ha, le-leb (c .state .span) (b .state .span) (omega arith), lt-ltb (c .state .span) (b .state .span) hb)
+    let k : ℕ = c .state .span in
+    let ha : k < a .state .span = from-in k (next-left i) f in
+    let hb : k < b .state .span = from-in k (next-right i) f in
+    rw (le-leb k (a .state .span) (omega arith), lt-ltb k (a .state .span) ha, le-leb k (b .state .span) (omega arith), lt-ltb k (b .state .span) hb)
     (omega (arith, before-next m (some c) i (from-rises (c .state .span) (spans l) f)))
 
 next-place : (t u : Bool) (cw : ℕ) (r : Rect) (b₁ a₁ b₂ a₂ w d : ℕ) → (u ≡ true → cw ≤ 1) → b₂ ≡ b₁ + (w + d) → b₁ + a₁ ≡ b₂ + a₂ → b₁ + a₁ ≤ r .width

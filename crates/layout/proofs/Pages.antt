@@ -204,11 +204,17 @@ char-none : (msg : List ℕ) (e : Entry) (f : Font) (x : Option (ℕ × ℕ)) �
 char-none msg e f none q = measure-none (measureIn msg e f) q
 char-none msg e f (some x) q = absurd (let z : _≡_ {A = ℕ} 0 1 = cc in omega arith)
 
-measured-in : (msg : List ℕ) (fs : List Font) (e : Entry) (q : Span) (o : Option Font) → fontNumbered (e .state .font) fs ≡ o → faultIn msg e o ≡ none → q .width ≡ widthIn msg e o
-    → q .height ≡ heightIn o → Measured msg fs e q
+measured-in : (msg : List ℕ) (fs : List Font) (e : Entry) (q : Span) (o : Option Font)
+    → fontNumbered (e .state .font) fs ≡ o → faultIn msg e o ≡ none → q .width ≡ widthIn msg e o → q .height ≡ heightIn o → Measured msg fs e q
 unfolding measureIn
 measured-in msg fs e q none p f w h = absurd (let z : _≡_ {A = ℕ} 0 1 = cc in omega arith)
-measured-in msg fs e q (some f) p g w h = record { font = f; found = p; width = char-none msg e f (versionFault (e .state .version) f) g ∙ ap Width (sym w); height = h }
+measured-in msg fs e q (some f) p g w h =
+    record {
+      font = f;
+      found = p;
+      width = char-none msg e f (versionFault (e .state .version) f) g ∙ ap Width (sym w);
+      height = h;
+    }
 
 fault-none : (s : Board) (r : Rect) (es : List Entry) (e : Entry) (x : Option (ℕ × ℕ)) → faultAt s r es e x ≡ none → x ≡ none
 fault-none s r es e none q = refl

@@ -53,7 +53,12 @@ pub select-true {ℓ} : {A : Type ℓ} (f : A → Bool) {e : A} (l : List A) →
 select-true f (c ∷ l) i = keep-in f (f c) refl (λ j. select-true f l j) i
 
 pub same-refl : (e : Entry) → same e e ≡ true
-same-refl e = simp (eq-eqb (e .state .«just_page») (e .state .«just_page») refl, eq-eqb (e .state .line) (e .state .line) refl, eq-eqb (e .state .«just_line») (e .state .«just_line») refl)
+same-refl e =
+    simp (
+      eq-eqb (e .state .«just_page») (e .state .«just_page») refl,
+      eq-eqb (e .state .line) (e .state .line) refl,
+      eq-eqb (e .state .«just_line») (e .state .«just_line») refl,
+    )
 
 pub record Same (a b : Entry) : Type 0 where
   pub justPage : a .state .«just_page» ≡ b .state .«just_page»
@@ -62,7 +67,8 @@ pub record Same (a b : Entry) : Type 0 where
 
 same-true : (a b : Entry) → same a b ≡ true → Same a b
 same-true a b q =
-    let (p, r) = and-true (eqb (a .state .«just_page») (b .state .«just_page»)) (eqb (a .state .line) (b .state .line) && eqb (a .state .«just_line») (b .state .«just_line»)) q in
+    let (p, r) = and-true (eqb (a .state .«just_page») (b .state .«just_page»))
+    (eqb (a .state .line) (b .state .line) && eqb (a .state .«just_line») (b .state .«just_line»)) q in
     let (l, j) = and-true (eqb (a .state .line) (b .state .line)) (eqb (a .state .«just_line») (b .state .«just_line»)) r in
     record { justPage = eqb-true _ _ p; line = eqb-true _ _ l; justLine = eqb-true _ _ j }
 
@@ -94,7 +100,8 @@ pub record Grid (c : Config) (r : Rect) : Type 0 where
 pub across : (s : Board) (r : Rect) (es : List Entry) (e : Entry) → Grid (s .config) r → In e es → spanFault s r es e ≡ none → Across r (recordOf s r es e)
 unfolding recordOf xOf beforeOf afterOf
 across s r es e g i q =
-    let (l, w) = inside-x (e .state .«just_line») (s .config .«char_width») r _ _ (s .meter .width e) (g .across) (width-after (s .meter) none (in-select (same e) (same-refl e) i)) ((passed s r es e q) .width) in
+    let (l, w) = inside-x (e .state .«just_line») (s .config .«char_width») r _ _ (s .meter .width e) (g .across)
+    (width-after (s .meter) none (in-select (same e) (same-refl e) i)) ((passed s r es e q) .width) in
     record { left = l; right = w }
 
 divides-unit : (c h : ℕ) → h % c ≡ 0 → h % unit c ≡ 0
@@ -116,12 +123,15 @@ pub down : (s : Board) (r : Rect) (es : List Entry) (e : Entry) → Grid (s .con
 unfolding recordOf baseOf aboveOf belowOf linesOf
 down s r es e g d i q =
     let t : Passed s r es e = passed s r es e q in
-    let (o, b) = inside-y (e .state .«just_page») (s .config .«char_height») r (aboveOf s r es e) (belowOf s r es e) (s .meter .height e) (g .down) (λ z. divides s e (d z))
-    (le-trans (tall-in (s .meter) [] (in-select (samePage e) (eq-eqb (e .state .«just_page») (e .state .«just_page») refl) i)) (tall-above (s .config .«char_height») (e .state .line) none (linesOf s r es e)))
+    let (o, b) = inside-y (e .state .«just_page») (s .config .«char_height») r (aboveOf s r es e) (belowOf s r es e)
+    (s .meter .height e) (g .down) (λ z. divides s e (d z))
+    (le-trans (tall-in (s .meter) [] (in-select (samePage e) (eq-eqb (e .state .«just_page») (e .state .«just_page») refl) i))
+    (tall-above (s .config .«char_height») (e .state .line) none (linesOf s r es e)))
     (t .height) (t .base) in
     record { top = o; bottom = b }
 
-pub spacing : (s : Board) (r : Rect) (es : List Entry) (a b : Entry) → (a .state .«just_line» ≡ 3 → s .config .«char_width» ≤ 1) → Next a b (group s r es a) → Rises (spans (group s r es a))
+pub spacing : (s : Board) (r : Rect) (es : List Entry) (a b : Entry)
+    → (a .state .«just_line» ≡ 3 → s .config .«char_width» ≤ 1) → Next a b (group s r es a) → Rises (spans (group s r es a))
     → spanFault s r es a ≡ none → xOf s r es b ≡ xOf s r es a + s .meter .width a + due (s .meter) a b
 unfolding xOf beforeOf afterOf
 spacing s r es a b c n u q =
@@ -129,8 +139,11 @@ spacing s r es a b c n u q =
     let t : Passed s r es a = passed s r es a q in
     let k : Same a b = same-true a b (select-true (same a) es (next-right n)) in
     let g : group s r es a ≡ group s r es b = same-group s r es a b k in
-    let e : sumBefore m (b .state .span) none (group s r es a) ≡ sumBefore m (a .state .span) none (group s r es a) + (m .width a + due m a b) = before-next m none n u in
-    let x : xOf s r es b ≡ placeX (a .state .«just_line») (s .config .«char_width») r (sumBefore m (b .state .span) none (group s r es a)) (sumAfter m (b .state .span) none (group s r es a)) = rw (g, k .justLine) in
+    let o : List Entry = group s r es a in
+    let i : ℕ = a .state .span in
+    let j : ℕ = b .state .span in
+    let e : sumBefore m j none o ≡ sumBefore m i none o + (m .width a + due m a b) = before-next m none n u in
+    let x : xOf s r es b ≡ placeX (a .state .«just_line») (s .config .«char_width») r (sumBefore m j none o) (sumAfter m j none o) = rw (g, k .justLine) in
     x
     ∙ next-x (a .state .«just_line») (s .config .«char_width») r _ _ _ _ (m .width a) (due m a b) c e
-    (before-after m (a .state .span) none (group s r es a) ∙ sym (before-after m (b .state .span) none (group s r es a))) (t .width)
+    (before-after m i none o ∙ sym (before-after m j none o)) (t .width)

@@ -204,7 +204,29 @@ module _ (end : ℕ) (p : List ℕ) where
   unfolding movingText
   movingText-tag = search (tags, mode-tag, linear-tag) depth 12
 
-  ruleset parsers = (newLine-tag, newPage-tag, font-tag, justificationLine-tag, justificationPage-tag, pageTime-tag, pageBackground-tag, colorForeground-tag, colorBackground-tag, colorRectangle-tag, textRectangle-tag, spacingCharacter-tag, hexadecimalCharacter-tag, flashTime-tag, field-tag, graphic-tag, spacingCharacterEnd-tag, flashEnd-tag, manufacturerSpecific-tag, manufacturerSpecificEnd-tag, movingText-tag)
+  ruleset parsers = (
+    newLine-tag,
+    newPage-tag,
+    font-tag,
+    justificationLine-tag,
+    justificationPage-tag,
+    pageTime-tag,
+    pageBackground-tag,
+    colorForeground-tag,
+    colorBackground-tag,
+    colorRectangle-tag,
+    textRectangle-tag,
+    spacingCharacter-tag,
+    hexadecimalCharacter-tag,
+    flashTime-tag,
+    field-tag,
+    graphic-tag,
+    spacingCharacterEnd-tag,
+    flashEnd-tag,
+    manufacturerSpecific-tag,
+    manufacturerSpecificEnd-tag,
+    movingText-tag,
+  )
 
   name-tag : (a b c : ℕ) → TagLike (byName (nameBy a b c) end p)
   unfolding nameBy firstName endName

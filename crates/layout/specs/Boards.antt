@@ -77,11 +77,45 @@ board file t k = calls file (ascii t) k 0
 
 -- a text of board P: start, length, x, y, width, line and span number
 unfoldable pub text : ℕ → ℕ → ℕ → ℕ → ℕ → ℕ → ℕ → Span
-text start len x y w line span = record { kind = 0; start = start; length = len; code = 0; x = x; y = y; width = w; height = 7; font = 1; line = line; span = span; «rect_x» = 1; «rect_y» = 1; «rect_width» = 50; «rect_height» = 24 }
+text start len x y w line span =
+    record {
+      kind = 0;
+      start = start;
+      length = len;
+      code = 0;
+      x = x;
+      y = y;
+      width = w;
+      height = 7;
+      font = 1;
+      line = line;
+      span = span;
+      «rect_x» = 1;
+      «rect_y» = 1;
+      «rect_width» = 50;
+      «rect_height» = 24;
+    }
 
 -- the same in another rectangle
 unfoldable pub within : ℕ → ℕ → ℕ → ℕ → Span → Span
-within rx ry rw rh s = record { kind = s .kind; start = s .start; length = s .length; code = s .code; x = s .x; y = s .y; width = s .width; height = s .height; font = s .font; line = s .line; span = s .span; «rect_x» = rx; «rect_y» = ry; «rect_width» = rw; «rect_height» = rh }
+within rx ry rw rh s =
+    record {
+      kind = s .kind;
+      start = s .start;
+      length = s .length;
+      code = s .code;
+      x = s .x;
+      y = s .y;
+      width = s .width;
+      height = s .height;
+      font = s .font;
+      line = s .line;
+      span = s .span;
+      «rect_x» = rx;
+      «rect_y» = ry;
+      «rect_width» = rw;
+      «rect_height» = rh;
+    }
 
 unfoldable pub lit : ℕ → ℕ → List Span → Result
 lit d n rs = record { answer = On d n; written = rs }
@@ -141,5 +175,45 @@ pub record Boards : Type 0 where
   pub short-slice : result boardP (ascii "A") 0 1399 ≡ refused 4 0 0 0
 
 pub boards : Boards
-unfolding times digitOf readFrom readDigits readNumber versionId first extra lowByte high fitsDue afterByte wellFormedFrom wellFormed codeOf codesFrom codes allLatin1 plainLen tagLen restLen slices isPair lastByte shapeOf lower upTo pastSep holds number optional xy rectangle color readOptional optionalVersion justification readXy rectangleOf readRgb rgbOf colorOf newLine newPageTag fontTag justificationLine justificationPage pageTime pageBackground colorForeground colorBackground fourOf fifth colorRectangle lastFour textRectangle spacingCharacter hexadecimalCharacter flashOn flashOff flashTime field pointOf graphicAt graphic spacingCharacterEnd flashEnd textOf manufacturerSpecific manufacturerSpecificEnd movement movementParts movementOf moved movingTextMode movingTextLinear movingText endName firstName nameBy nameOf tagValue fieldTag tagItem textItem itemOf littleAt bodyLen kindOf wholeRecord firstPiece restLenRecord cutFrom pieces configOf sizeOk justOk notZero bitsOk tagsOk configOk isConfig charactersOf fontsOf configIn member isFont bitmapLen isCharacter faultFrom firstBad fault signFile items measureIn meterOf boardOf lookup characterIn widened widthAfter textWidth step opening events orElse unless due lineGap beforeOf afterOf linesOf aboveOf belowOf xOf baseOf recordOf spanFault passFault passRecords pages admission result dark config character font1 boardP boardM boardC calls board text within lit off end refused
-boards = record { empty = refl; ab = refl; right = refl; centre = refl; two-lines = refl; spaced = refl; bracket = refl; full = refl; too-wide = refl; two-digits = refl; stray = refl; back = refl; pages = refl; font-zero = refl; no-code = refl; low = refl; reset = refl; repeated = refl; combined = refl; half = refl; off-grid = refl; forty-nine = refl; fifty = refl; missing-first = refl; scan-first = refl; longest = refl; too-long = refl; no-sign = refl; short-slice = refl }
+unfolding times digitOf readFrom readDigits readNumber versionId first extra lowByte high fitsDue afterByte wellFormedFrom wellFormed codeOf codesFrom
+    codes allLatin1 plainLen tagLen restLen slices isPair lastByte shapeOf lower upTo pastSep holds number optional xy rectangle color readOptional
+    optionalVersion justification readXy rectangleOf readRgb rgbOf colorOf newLine newPageTag fontTag justificationLine justificationPage pageTime
+    pageBackground colorForeground colorBackground fourOf fifth colorRectangle lastFour textRectangle spacingCharacter hexadecimalCharacter flashOn
+    flashOff flashTime field pointOf graphicAt graphic spacingCharacterEnd flashEnd textOf manufacturerSpecific manufacturerSpecificEnd movement
+    movementParts movementOf moved movingTextMode movingTextLinear movingText endName firstName nameBy nameOf tagValue fieldTag tagItem textItem itemOf
+    littleAt bodyLen kindOf wholeRecord firstPiece restLenRecord cutFrom pieces configOf sizeOk justOk notZero bitsOk tagsOk configOk isConfig
+    charactersOf fontsOf configIn member isFont bitmapLen isCharacter faultFrom firstBad fault signFile items measureIn meterOf boardOf lookup characterIn
+    widened widthAfter textWidth step opening events orElse unless due lineGap beforeOf afterOf linesOf aboveOf belowOf xOf baseOf recordOf spanFault
+    passFault passRecords pages admission result dark config character font1 boardP boardM boardC calls board text within lit off end refused
+boards =
+    record {
+      empty = refl;
+      ab = refl;
+      right = refl;
+      centre = refl;
+      two-lines = refl;
+      spaced = refl;
+      bracket = refl;
+      full = refl;
+      too-wide = refl;
+      two-digits = refl;
+      stray = refl;
+      back = refl;
+      pages = refl;
+      font-zero = refl;
+      no-code = refl;
+      low = refl;
+      reset = refl;
+      repeated = refl;
+      combined = refl;
+      half = refl;
+      off-grid = refl;
+      forty-nine = refl;
+      fifty = refl;
+      missing-first = refl;
+      scan-first = refl;
+      longest = refl;
+      too-long = refl;
+      no-sign = refl;
+      short-slice = refl;
+    }

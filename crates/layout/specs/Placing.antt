@@ -97,7 +97,12 @@ firstOf None b = b
 firstOf (Some n) b = Some n
 
 abbrev pub combine : Line → Line → Line
-combine a b = record { height = max (a .height) (b .height); fontSpacing = max (a .fontSpacing) (b .fontSpacing); lineSpacing = firstOf (a .lineSpacing) (b .lineSpacing) }
+combine a b =
+    record {
+      height = max (a .height) (b .height);
+      fontSpacing = max (a .fontSpacing) (b .fontSpacing);
+      lineSpacing = firstOf (a .lineSpacing) (b .lineSpacing);
+    }
 
 -- "a span whose line number is at or past its length adds a new line"; otherwise it combines with the line of its number
 abbrev pub addLine : ℕ → Line → List Line → List Line
@@ -216,7 +221,9 @@ module _ (s : Board) (r : Rect) (es : List Entry) where
 
 -- `check_justification`: "a span's justification goes back", compared with the span just before
 abbrev pub goesBack : Entry → Entry → Bool
-goesBack p e = ltb (e .state .«just_page») (p .state .«just_page») || (eqb (e .state .«just_page») (p .state .«just_page») && (eqb (e .state .line) (p .state .line) && ltb (e .state .«just_line») (p .state .«just_line»)))
+goesBack p e =
+    ltb (e .state .«just_page») (p .state .«just_page»)
+    || (eqb (e .state .«just_page») (p .state .«just_page») && (eqb (e .state .line) (p .state .line) && ltb (e .state .«just_line») (p .state .«just_line»)))
 
 abbrev pub backFault : Option Entry → List Entry → Option Refusal
 backFault p [] = none

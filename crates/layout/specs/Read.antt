@@ -92,29 +92,106 @@ abbrev pub entryOf : ℕ → ℕ → ℕ → ℕ → RenderState → Entry
 entryOf kind start len code st = record { kind = kind; start = start; len = len; code = code; state = st }
 
 abbrev pub withSpan : RenderState → ℕ → RenderState
-withSpan st n = record { rect = st .rect; «just_page» = st .«just_page»; «just_line» = st .«just_line»; font = st .font; version = st .version; «line_spacing» = st .«line_spacing»; «char_spacing» = st .«char_spacing»; line = st .line; span = n }
+withSpan st n =
+    record {
+      rect = st .rect;
+      «just_page» = st .«just_page»;
+      «just_line» = st .«just_line»;
+      font = st .font;
+      version = st .version;
+      «line_spacing» = st .«line_spacing»;
+      «char_spacing» = st .«char_spacing»;
+      line = st .line;
+      span = n;
+    }
 
 -- "A [jl] always restarts the span number"
 abbrev pub withJustLine : RenderState → ℕ → RenderState
-withJustLine st j = record { rect = st .rect; «just_page» = st .«just_page»; «just_line» = j; font = st .font; version = st .version; «line_spacing» = st .«line_spacing»; «char_spacing» = st .«char_spacing»; line = st .line; span = 0 }
+withJustLine st j =
+    record {
+      rect = st .rect;
+      «just_page» = st .«just_page»;
+      «just_line» = j;
+      font = st .font;
+      version = st .version;
+      «line_spacing» = st .«line_spacing»;
+      «char_spacing» = st .«char_spacing»;
+      line = st .line;
+      span = 0;
+    }
 
 -- "a [jp] restarts line and span numbers only if it changes the justification"
 abbrev pub withJustPage : RenderState → ℕ → RenderState
-withJustPage st j = record { rect = st .rect; «just_page» = j; «just_line» = st .«just_line»; font = st .font; version = st .version; «line_spacing» = st .«line_spacing»; «char_spacing» = st .«char_spacing»; line = pick (eqb j (st .«just_page»)) (st .line) 0; span = pick (eqb j (st .«just_page»)) (st .span) 0 }
+withJustPage st j =
+    record {
+      rect = st .rect;
+      «just_page» = j;
+      «just_line» = st .«just_line»;
+      font = st .font;
+      version = st .version;
+      «line_spacing» = st .«line_spacing»;
+      «char_spacing» = st .«char_spacing»;
+      line = pick (eqb j (st .«just_page»)) (st .line) 0;
+      span = pick (eqb j (st .«just_page»)) (st .span) 0;
+    }
 
 -- [nl]: the next line, with the spacing above it
 abbrev pub withLine : RenderState → OptNum → RenderState
-withLine st ls = record { rect = st .rect; «just_page» = st .«just_page»; «just_line» = st .«just_line»; font = st .font; version = st .version; «line_spacing» = ls; «char_spacing» = st .«char_spacing»; line = suc (st .line); span = 0 }
+withLine st ls =
+    record {
+      rect = st .rect;
+      «just_page» = st .«just_page»;
+      «just_line» = st .«just_line»;
+      font = st .font;
+      version = st .version;
+      «line_spacing» = ls;
+      «char_spacing» = st .«char_spacing»;
+      line = suc (st .line);
+      span = 0;
+    }
 
 abbrev pub withCharSpacing : RenderState → OptNum → RenderState
-withCharSpacing st cs = record { rect = st .rect; «just_page» = st .«just_page»; «just_line» = st .«just_line»; font = st .font; version = st .version; «line_spacing» = st .«line_spacing»; «char_spacing» = cs; line = st .line; span = st .span }
+withCharSpacing st cs =
+    record {
+      rect = st .rect;
+      «just_page» = st .«just_page»;
+      «just_line» = st .«just_line»;
+      font = st .font;
+      version = st .version;
+      «line_spacing» = st .«line_spacing»;
+      «char_spacing» = cs;
+      line = st .line;
+      span = st .span;
+    }
 
 abbrev pub withFont : RenderState → ℕ → OptNum → RenderState
-withFont st f v = record { rect = st .rect; «just_page» = st .«just_page»; «just_line» = st .«just_line»; font = f; version = v; «line_spacing» = st .«line_spacing»; «char_spacing» = st .«char_spacing»; line = st .line; span = st .span }
+withFont st f v =
+    record {
+      rect = st .rect;
+      «just_page» = st .«just_page»;
+      «just_line» = st .«just_line»;
+      font = f;
+      version = v;
+      «line_spacing» = st .«line_spacing»;
+      «char_spacing» = st .«char_spacing»;
+      line = st .line;
+      span = st .span;
+    }
 
 -- [tr]: a new rectangle restarts line and span numbers
 abbrev pub withRect : RenderState → Rect → RenderState
-withRect st r = record { rect = r; «just_page» = st .«just_page»; «just_line» = st .«just_line»; font = st .font; version = st .version; «line_spacing» = st .«line_spacing»; «char_spacing» = st .«char_spacing»; line = 0; span = 0 }
+withRect st r =
+    record {
+      rect = r;
+      «just_page» = st .«just_page»;
+      «just_line» = st .«just_line»;
+      font = st .font;
+      version = st .version;
+      «line_spacing» = st .«line_spacing»;
+      «char_spacing» = st .«char_spacing»;
+      line = 0;
+      span = 0;
+    }
 
 -- [fo] without a number: the sign's font, and no version id
 abbrev pub fontStep : Config → RenderState → OptFont → RenderState
@@ -234,11 +311,33 @@ whole s = record { left = 0; top = 0; width = s .width; height = s .height }
 
 -- "Line spacing and text rectangle restart with each page; font, character spacing and justification carry on"
 abbrev pub newPage : Config → RenderState → RenderState
-newPage s st = record { rect = whole s; «just_page» = st .«just_page»; «just_line» = st .«just_line»; font = st .font; version = st .version; «line_spacing» = None; «char_spacing» = st .«char_spacing»; line = 0; span = 0 }
+newPage s st =
+    record {
+      rect = whole s;
+      «just_page» = st .«just_page»;
+      «just_line» = st .«just_line»;
+      font = st .font;
+      version = st .version;
+      «line_spacing» = None;
+      «char_spacing» = st .«char_spacing»;
+      line = 0;
+      span = 0;
+    }
 
 -- the state at the message's start: the sign's defaults
 abbrev pub start : Config → RenderState
-start s = record { rect = whole s; «just_page» = s .«page_just»; «just_line» = s .«line_just»; font = s .font; version = None; «line_spacing» = None; «char_spacing» = None; line = 0; span = 0 }
+start s =
+    record {
+      rect = whole s;
+      «just_page» = s .«page_just»;
+      «just_line» = s .«line_just»;
+      font = s .font;
+      version = None;
+      «line_spacing» = None;
+      «char_spacing» = None;
+      line = 0;
+      span = 0;
+    }
 
 -- "A pass ends at [tr], [np] or the end"; "Each pass starts with a blank line". acc: the spans of the pass so far; next reads the rest
 abbrev pub follow : Config → ℕ → ℕ → RenderState → List Entry → List Item → (ℕ → ℕ → RenderState → Bool → List Entry → List Event) → Step → List Event

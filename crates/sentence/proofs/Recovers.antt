@@ -197,10 +197,19 @@ module _ (r : Refusal) (a : r .number < 256) (b : r .start < 65536) (c : r .leng
   room =
       let e : length (sentence r)
       ≡ 8 +
-      (digitCount (r .number) + (9 + (digitCount (r .start) + (9 + (digitCount (r .length) + (9 + (digitCount (r .detail) + (2 + (length (words (r .number)) + 1)))))))))
+      (digitCount (r .number) + (9 + (digitCount (r .start) + (9 +
+      (digitCount (r .length) + (9 + (digitCount (r .detail) + (2 + (length (words (r .number)) + 1)))))))))
       =
       ap length whole ∙ simp (length-append, decimal-length) (omega arith) in
-      omega (arith, e, digit-count-small (r .number) (omega arith), digit-count-le (r .start), digit-count-le (r .length), digit-count-le (r .detail), words-short (r .number))
+      omega (
+        arith,
+        e,
+        digit-count-small (r .number) (omega arith),
+        digit-count-le (r .start),
+        digit-count-le (r .length),
+        digit-count-le (r .detail),
+        words-short (r .number),
+      )
 
   plain : ended (sentence r) ≡ true
   plain =
