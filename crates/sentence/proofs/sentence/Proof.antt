@@ -5,6 +5,16 @@ use Rattle.sentence.proofs.Laws.{sentence-short, sentence-told}
 use Rattle.sentence.proofs.sentence.Statement.{statement}
 use Rattle.sentence.proofs.sentence.Tie as tie
 
+-- the places where a piece was put, in their order
+record Puts : Type 1 where
+  number : tie.After-put-number
+  start : tie.After-put-field
+  len : tie.After-put-field2
+  detail : tie.After-put-field3
+  colon : tie.After-put
+  words : tie.After-put-words
+  stop : tie.After-put2
+
 pub sentence-spec : {M : Type 1} → statement M
 sentence-spec =
     tie.close (tie.spec
@@ -21,39 +31,22 @@ sentence-spec =
     (λ c κs. search needs)  -- put-words-requires
     (λ c. search needs)  -- slice-aggregate-put-2
     (λ c κs. search needs)  -- put-requires-2
-    (λ c. let f : tie.After-put2 = search in
-    let w : tie.After-put-words = search in
-    let e : tie.After-put = search in
-    let d : tie.After-put-field3 = search in
-    let b : tie.After-put-field2 = search in
-    let a : tie.After-put-field = search in
-    let n : tie.After-put-number = search in
+    (λ c. let p : Puts = search in
     omega (
       arith,
-      f .put2 .ensures .ends,
-      w .put-words .ensures .few,
-      e .put .ensures .ends,
-      d .put-field3 .ensures .few,
-      b .put-field2 .ensures .few,
-      a .put-field .ensures .few,
-      n .put-number .ensures .few,
+      p .stop .put2 .ensures .ends,
+      p .words .put-words .ensures .few,
+      p .colon .put .ensures .ends,
+      p .detail .put-field3 .ensures .few,
+      p .len .put-field2 .ensures .few,
+      p .start .put-field .ensures .few,
+      p .number .put-number .ensures .few,
     ))  -- cast-result
-    (λ c. let f : tie.After-put2 = search in
-    let w : tie.After-put-words = search in
-    let e : tie.After-put = search in
-    let d : tie.After-put-field3 = search in
-    let b : tie.After-put-field2 = search in
-    let a : tie.After-put-field = search in
-    let n : tie.After-put-number = search in
-    f .put2 .ensures .size ∙ w .put-words .ensures .put .size ∙ e .put .ensures .size ∙ d .put-field3 .ensures .put .size
-    ∙ b .put-field2 .ensures .put .size ∙ a .put-field .ensures .put .size ∙ n .put-number .ensures .put .size)  -- same-length
-    (λ c. let f : tie.After-put2 = search in
-    let w : tie.After-put-words = search in
-    let e : tie.After-put = search in
-    let d : tie.After-put-field3 = search in
-    let b : tie.After-put-field2 = search in
-    let a : tie.After-put-field = search in
-    let n : tie.After-put-number = search in
+    (λ c. let p : Puts = search in
+    p .stop .put2 .ensures .size ∙ p .words .put-words .ensures .put .size ∙ p .colon .put .ensures .size ∙ p .detail .put-field3 .ensures .put .size
+    ∙ p .len .put-field2 .ensures .put .size ∙ p .start .put-field .ensures .put .size ∙ p .number .put-number .ensures .put .size)  -- same-length
+    (λ c. let p : Puts = search in
     let z : tie.Start = search in
-    sentence-told (z .args .r) (z .args .buffer .now) (search needs) (n .put-number .ensures) (a .put-field .ensures)
-    (b .put-field2 .ensures) (d .put-field3 .ensures) (e .put .ensures) (w .put-words .ensures) (f .put2 .ensures)))  -- returns-2
+    sentence-told (z .args .r) (z .args .buffer .now) (search needs) (p .number .put-number .ensures) (p .start .put-field .ensures)
+    (p .len .put-field2 .ensures) (p .detail .put-field3 .ensures) (p .colon .put .ensures) (p .words .put-words .ensures)
+    (p .stop .put2 .ensures)))  -- returns-2
