@@ -38,7 +38,7 @@ use Rattle.pages.specs.declared.NextPage.{NextPage}
 use Rattle.pages.specs.declared.NextPage.the-variants.{Page as NextShown, End as NextNone, Refused as NextRefused}
 use Rattle.pages.specs.Pages.{boardIn, Ready, firstOf, todo, shownPage, nextTold, InMessage, weight, IfShown, Advances, NextAsked, NextRead}
 use Rattle.pages.proofs.Answers.{pages-todo, first-in}
-use Rattle.answer.specs.Answer.{writtenBy, told, answerBy, Answerable, countOf, RecordRoom, Numbered, Listable, WithRoom, Computed}
+use Rattle.answer.specs.Answer.{writtenBy, told, answerBy, Answerable, countOf, RecordRoom, Numbered, Listable, WithRoom, Computed, Counted}
 
 -- ---- an answer of a page
 
@@ -258,12 +258,13 @@ module _ {file msg : List ℕ} {number room : ℕ} {out l : List ℕ} {a : Answe
   counted : length (x .written) ≡ n
   counted = ap (λ (y : Result). length (y .written)) (sym (h .ends)) ∙ count-told a l ∙ sym c
 
-  pub counted-is : (a ≡ x .answer) × (spansOf l n ≡ x .written) × (n ≤ 1400) × (n ≤ room) × (15 * n ≤ length l)
+  pub counted-is : Counted file msg number room l (record { answer = a; count = n })
   counted-is =
-      let r : (length (x .written) ≤ 1400) × (length (x .written) ≤ room) = result-room file msg number room in (
-        ap (λ (y : Result). y .answer) (h .ends),
-        ap (spansOf l) c ∙ none-written a l ∙ ap (λ (y : Result). y .written) (h .ends),
-        omega (arith, r .0, counted),
-        omega (arith, r .1, counted),
-        omega (arith, h .few, h .long, c),
-      )
+      let r : (length (x .written) ≤ 1400) × (length (x .written) ≤ room) = result-room file msg number room in
+      record {
+        answer = ap (λ (y : Result). y .answer) (h .ends);
+        records = ap (spansOf l) c ∙ none-written a l ∙ ap (λ (y : Result). y .written) (h .ends);
+        most = omega (arith, r .0, counted);
+        few = omega (arith, r .1, counted);
+        long = omega (arith, h .few, h .long, c);
+      }

@@ -17,6 +17,7 @@ use Rattle.meter.specs.Gauges.{AcceptedTable}
 use Rattle.pages.specs.Pages.{boardIn, IfShown}
 use Rattle.pages.specs.declared.NextPage.{NextPage}
 use Rattle.pages.specs.declared.NextPage.the-variants.{Page as NextShown, End as NextNone, Refused as NextRefused}
+use Rattle.answer.specs.declared.AnswerCount.{AnswerCount}
 
 -- the records that an answer counts: the first of the slice
 abbrev pub writtenBy : Answer → List ℕ → List Span
@@ -74,3 +75,11 @@ pub record Computed (file msg : List ℕ) (number room : ℕ) (out out′ : List
   pub ends : told r out′ ≡ result file msg number room
   pub few : SpanRoom (countOf r) out
   pub long : length out′ ≡ length out
+
+-- the same with the count of its records, which stand first in the slice
+pub record Counted (file msg : List ℕ) (number room : ℕ) (out′ : List ℕ) (r : AnswerCount) : Type 0 where
+  pub answer : r .answer ≡ (result file msg number room) .answer
+  pub records : spansOf out′ (r .count) ≡ (result file msg number room) .written
+  pub most : r .count ≤ 1400
+  pub few : r .count ≤ room
+  pub long : SpanRoom (r .count) out′

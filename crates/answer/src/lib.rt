@@ -1,11 +1,7 @@
 // The computation of an answer: sign file, message, answer number and room give the answer, and its records as rows of numbers.
 ghost use mathlib.Core.Path.{_≡_};
-ghost use Prim.Native.Nat.{_*_, _≤_};
-ghost use lib.ListN.{length};
-ghost use Rattle.layout.specs.Listing.{result};
 ghost use Rattle.pages.specs.Pages.{Ready};
-ghost use Rattle.answer.specs.Answer.{answerBy, Answerable, countOf, RecordRoom, Numbered, Listable, WithRoom, Computed};
-ghost use Rattle.rows.specs.Rows.{spansOf};
+ghost use Rattle.answer.specs.Answer.{answerBy, Answerable, countOf, RecordRoom, Numbered, Listable, WithRoom, Computed, Counted};
 use layout::Answer;
 use pages::NextPage;
 use refusal::OptRefusal;
@@ -66,10 +62,10 @@ fn paged(file: &[u8], table: SignFile, msg: &[u8], number: usize, out: &mut [u16
     ensures { λ r. ⌜ Numbered (now (file .entry)) table (now (msg .entry)) number (now (out .entry)) (now (out .exit)) r ⌝ }
 {
     if msg.len() <= 256 {
-        let mut few = [0u16; 4864];
+        let mut few = [0u16; rows::SHORT_ROW_ROOM];
         return numbered(file, table, msg, number, &mut few, out);
     }
-    let mut rows = [0u16; 38912];
+    let mut rows = [0u16; rows::ROW_ROOM];
     numbered(file, table, msg, number, &mut rows, out)
 }
 
@@ -130,9 +126,7 @@ pub struct AnswerCount {
 // The answer with the count of its records, which stand first in the slice.
 pub fn counted(file: &[u8], msg: &[u8], number: usize, room: usize, out: &mut [u16]) -> AnswerCount
     requires { ⌜ RecordRoom (now msg) (now out) ⌝ }
-    ensures { λ r. ⌜ (r .answer ≡ (result (now (file .entry)) (now (msg .entry)) number room) .answer)
-        × (spansOf (now (out .exit)) (r .count) ≡ (result (now (file .entry)) (now (msg .entry)) number room) .written)
-        × (r .count ≤ 1400) × (r .count ≤ room) × (15 * r .count ≤ length (now (out .exit))) ⌝ }
+    ensures { λ r. ⌜ Counted (now (file .entry)) (now (msg .entry)) number room (now (out .exit)) r ⌝ }
 {
     let answer = compute(file, msg, number, room, out);
     let count = count_of(answer);

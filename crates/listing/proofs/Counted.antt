@@ -33,13 +33,15 @@ use Rattle.layout.specs.Listing.{result, listing, after}
 use Rattle.layout.proofs.Span as T
 use Rattle.layout.proofs.Answer as An
 use Rattle.layout.proofs.Answer.Laws as An′
-use Rattle.rows.specs.Rows.{spanAt, spansOf}
+use Rattle.rows.specs.Rows.{spanWidth, spanAt, spansOf}
 use Rattle.rows.proofs.Laws.{spans-length}
 use Rattle.answer.specs.declared.AnswerCount.{AnswerCount}
+use Rattle.answer.specs.Answer.{Counted}
 use Rattle.answer.proofs.AnswerCount as B
 use Rattle.answer.proofs.AnswerCount.Laws as B′
 use Rattle.answer.proofs.counted as counted
 use Rattle.answer.proofs.counted.Symbol as counted-def
+use Rattle.listing.specs.Overwrite.{Writable}
 use Rattle.listing.proofs.list as f
 use Rattle.listing.proofs.Thin.{left-of, Fits-in, Blocks, envOf, Takes}
 use Rattle.listing.proofs.Through.{Fit, passed, Promise, Met}
@@ -52,31 +54,26 @@ use Rattle.listing.proofs.Filled.{four, args, calling, filled}
 
 -- what `counted` asks, and what it tells
 abbrev pub Asks : List ℕ → ℕ → Type 0
-Asks m k = (h : length m ≤ 2048) → 15 * length m ≤ k
+Asks m k = (h : length m ≤ 2048) → spanWidth * length m ≤ k
 
 abbrev pub Known : List ℕ → List ℕ → ℕ → ℕ → AnswerCount → List ℕ → Type 0
-Known file m n k r zs =
-    (r .answer ≡ (result file m n k) .answer) × (spansOf zs (r .count) ≡ (result file m n k) .written) × (r .count ≤ 1400) × (r .count ≤ k) ×
-    (15 * r .count ≤ length zs)
+Known file m n k r zs = Counted file m n k zs r
 
 -- what the listing's contract says
 abbrev pub Listed : List ℕ → List ℕ → ℕ → List Span → Answer → List Span → Type 0
 Listed file m n ys x ws = (x ≡ listing file m n ys) × (ws ≡ after file m n ys)
 
--- what `write_rows` asks
-abbrev Few : List ℕ → ℕ → ℕ → Type 0
-Few l n k = (n ≤ 2048) × (15 * n ≤ length l) × (n ≤ k)
-
-room : (file m : List ℕ) (n k : ℕ) (r : AnswerCount) (zs : List ℕ) → Known file m n k r zs → (r .count < 2 ^ 64) × Few zs (r .count) k
-room file m n k r zs known = (omega (arith, known .2), (omega (arith, known .2), known .4, known .3))
+room : (file m : List ℕ) (n k : ℕ) (r : AnswerCount) (zs : List ℕ) → Known file m n k r zs → (r .count < 2 ^ 64) × Writable zs (r .count) k
+room file m n k r zs known =
+    (omega (arith, known .most), record { few = omega (arith, known .most); long = known .long; lent = known .few })
 
 tells : (file m : List ℕ) (n : ℕ) (ys : List Span) (r : AnswerCount) (zs : List ℕ) → Known file m n (length ys) r zs
     → Listed file m n ys (r .answer) (overwritten (spanAt zs) (r .count) ys)
 unfolding listing after spansOf
 tells file m n ys r zs known = (
-  known .0,
-  ap (λ (l : List Span). l ++ drop (r .count) ys) (known .1)
-      ∙ ap (λ (j : ℕ). (result file m n (length ys)) .written ++ drop j ys) (sym (spans-length zs (r .count)) ∙ ap length (known .1)),
+  known .answer,
+  ap (λ (l : List Span). l ++ drop (r .count) ys) (known .records)
+      ∙ ap (λ (j : ℕ). (result file m n (length ys)) .written ++ drop j ys) (sym (spans-length zs (r .count)) ∙ ap length (known .records)),
 )
 
 told : (r : AnswerCount) (u : Val) → Is B.the-row r (u ∷ []) → u ≡ LL.val B.the-type B′.the-laws r
@@ -107,7 +104,7 @@ module _ {M : Type 1} (𝓤 : URA M) (H : Heap 𝓤) (A : Atoms 𝓤) (W : Given
       (asks : (κs : Lfts 3) (a : Args f.signature κs) → ent 𝓤 (req κs a) (fact 𝓤 (Asks (now (a .1 .0)) N)))
       (known-counted : Triple 𝓤 (𝓣 .C counted-def.name) (tripleOf 𝓤 H A counted.signature (counted.spec 𝓤 H A mem run)))
       (known-write : Triple 𝓤 (𝓣 .C write-def.name) (tripleOf 𝓤 H A write.signature (write.spec 𝓤 H A mem run))) where
-    writes : Triple 𝓤 (𝓣 .C write-def.name) (Writing T.the-type spanAt Few 𝓤 H A)
+    writes : Triple 𝓤 (𝓣 .C write-def.name) (Writing T.the-type spanAt Writable 𝓤 H A)
     unfolding spansOf
     writes = known-write
 
@@ -117,5 +114,5 @@ module _ {M : Type 1} (𝓤 : URA M) (H : Heap 𝓤) (A : Atoms 𝓤) (W : Given
         ≡ Left counted-def.name write-def.name N B′.mir An′.mir (args κs a N) (slice-of (a .1 .1 .1 .0)) (block bs))
         → Met 𝓤 f.ended H A (listing-of req) (WpFn 𝓤 H (𝓣 .C) (𝓣 .Λ) fn)
     lists fn block takes is =
-        filled 𝓤 H A W (𝓣 .C) (fmOf 𝓤 H (W .laws) 𝓣) N N-room counted-def.name write-def.name Few B.the-row B′.mir fits An.the-row An′.mir answer-fits
+        filled 𝓤 H A W (𝓣 .C) (fmOf 𝓤 H (W .laws) 𝓣) N N-room counted-def.name write-def.name Writable B.the-row B′.mir fits An.the-row An′.mir answer-fits
         ((EL.makes An.the-type An′.the-plain) 𝓤 H A) answered Asks Known Listed room tells req asks known-counted writes (𝓣 .Λ) fn block takes is

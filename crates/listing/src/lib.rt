@@ -1,15 +1,15 @@
 // The listing call: it writes the records of an answer to the lent slice.
 ghost use mathlib.Core.Path.{_≡_};
-ghost use Prim.Native.Nat.{_*_, _≤_};
+ghost use Prim.Native.Nat.{_≤_};
 ghost use lib.ListN.{length};
 ghost use Rattle.layout.specs.Listing.{listing, after};
-ghost use Rattle.listing.specs.Overwrite.{overwrite};
+ghost use Rattle.listing.specs.Overwrite.{Writable, overwrite};
 use layout::Answer;
 use layout::Span;
 
 // The first n spans of a slice of numbers go to the lent slice; what it has past them stays.
 fn write_rows(recs: &mut [Span], out: &[u16], n: usize)
-    requires { ⌜ (n ≤ 2048) × (15 * n ≤ length (now out)) × (n ≤ length (now recs)) ⌝ }
+    requires { ⌜ Writable (now out) n (length (now recs)) ⌝ }
     ensures { λ _. ⌜ now (recs .exit) ≡ overwrite (now (out .entry)) n (now (recs .entry)) ⌝ }
 {
     let mut i = 0;
@@ -19,13 +19,13 @@ fn write_rows(recs: &mut [Span], out: &[u16], n: usize)
     }
 }
 
-// The listing of a short message: 15 numbers for each of its bytes are enough.
+// The listing of a short message: the numbers of one record for each of its bytes are enough.
 fn list_short(file: &[u8], message: &[u8], answer: usize, recs: &mut [Span]) -> Answer
     requires { ⌜ length (now message) ≤ 256 ⌝ }
     ensures { λ r. ⌜ (r ≡ listing (now (file .entry)) (now (message .entry)) answer (now (recs .entry)))
         × (now (recs .exit) ≡ after (now (file .entry)) (now (message .entry)) answer (now (recs .entry))) ⌝ }
 {
-    let mut out = [0u16; 3840];
+    let mut out = [0u16; rows::SHORT_SPAN_ROOM];
     let n = recs.len();
     let a = answer::counted(file, message, answer, n, &mut out);
     write_rows(recs, &out, a.count);
@@ -37,7 +37,7 @@ fn list_long(file: &[u8], message: &[u8], answer: usize, recs: &mut [Span]) -> A
     ensures { λ r. ⌜ (r ≡ listing (now (file .entry)) (now (message .entry)) answer (now (recs .entry)))
         × (now (recs .exit) ≡ after (now (file .entry)) (now (message .entry)) answer (now (recs .entry))) ⌝ }
 {
-    let mut out = [0u16; 30720];
+    let mut out = [0u16; rows::SPAN_ROOM];
     let n = recs.len();
     let a = answer::counted(file, message, answer, n, &mut out);
     write_rows(recs, &out, a.count);

@@ -62,6 +62,15 @@ pub const ROW_WIDTH: usize = 19;
 
 pub const SPAN_WIDTH: usize = 15;
 
+// The numbers of as many rows, and of as many records, as a message can have: one for each byte. The same of a short message.
+pub const ROW_ROOM: usize = 2048 * ROW_WIDTH;
+
+pub const SPAN_ROOM: usize = 2048 * SPAN_WIDTH;
+
+pub const SHORT_ROW_ROOM: usize = 256 * ROW_WIDTH;
+
+pub const SHORT_SPAN_ROOM: usize = 256 * SPAN_WIDTH;
+
 // A number from its two halves.
 fn whole(low: u16, high: u16) -> u32
     ensures { λ r. ⌜ r ≡ low + 65536 * high ⌝ }
@@ -197,7 +206,7 @@ fn span_from(n: &[u16]) -> Span
 
 // The record at a place.
 pub fn span_at(out: &[u16], i: usize) -> Span
-    requires { ⌜ (i < 2048) × (spanWidth * i + spanWidth ≤ length (now out)) ⌝ }
+    requires { ⌜ (i < 2048) × SpanRoom (i + 1) (now out) ⌝ }
     ensures { λ r. ⌜ r ≡ spanAt (now (out .entry)) i ⌝ }
 {
     let k = SPAN_WIDTH * i;

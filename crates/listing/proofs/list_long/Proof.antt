@@ -1,4 +1,5 @@
--- `list_long` meets its contract: `Filled.antt` over `counted`, with an array of 30720 numbers.
+-- `list_long` meets its contract: `Filled.antt` over `counted`, with an array for 2048 records.
+use Prim.Native.Nat.{_*_}
 use mathlib.Core.Path.{refl}
 use native.Mathlib.Omega.{arith}
 use lib.Dec.{lit<}
@@ -11,6 +12,7 @@ use denote.Triple.Table.{entered, cited}
 use Rattle.listing.proofs.write_rows as write
 use Rattle.listing.proofs.write_rows.Symbol as write-def
 use Rattle.listing.proofs.write_rows.Met as write-thm
+use Rattle.rows.specs.Rows.{spanWidth}
 use Rattle.answer.proofs.counted as counted
 use Rattle.answer.proofs.counted.Symbol as counted-def
 use Rattle.answer.proofs.counted.Met as counted-thm
@@ -25,8 +27,8 @@ unfolding code.routine tablesOf
 list-long-spec 𝓤 H 𝓜 𝓖 𝓡 =
     entered 𝓤 H (tripleOf 𝓤 H (𝓖 .A) f.signature (f.spec 𝓤 H (𝓖 .A) (𝓜 .mem) (𝓡 .run)))
     (tables 𝓤 H 𝓜 𝓡 code.env .C) (tables 𝓤 H 𝓜 𝓡 code.env .Λ) key.name code.function (code.unfolded 𝓤 H 𝓜 𝓡)
-    (lists 𝓤 H (𝓖 .A) (givenOf 𝓤 H 𝓜 𝓖) (𝓜 .mem) (𝓡 .run) (tablesOf 𝓤 H 𝓜 (tables 𝓤 H 𝓜 𝓡 code.env)) 30720 (lit< tt, lit< tt)
-    (λ κs a. emp 𝓤) (λ κs a. factI 𝓤 (Asks (now (a .1 .0)) 30720) (emp 𝓤) (λ h. omega arith))
+    (lists 𝓤 H (𝓖 .A) (givenOf 𝓤 H 𝓜 𝓖) (𝓜 .mem) (𝓡 .run) (tablesOf 𝓤 H 𝓜 (tables 𝓤 H 𝓜 𝓡 code.env)) (spanWidth * 2048) (lit< tt, lit< tt)
+    (λ κs a. emp 𝓤) (λ κs a. factI 𝓤 (Asks (now (a .1 .0)) (spanWidth * 2048)) (emp 𝓤) (λ h. omega arith))
     (cited 𝓤 H (tripleOf 𝓤 H (𝓖 .A) counted.signature (counted.spec 𝓤 H (𝓖 .A) (𝓜 .mem) (𝓡 .run)))
     𝓜 𝓡 code.env counted-def.name counted-def.routine code.calls-answer·counted (counted-thm.met 𝓤 H 𝓜 𝓖 𝓡))
     (cited 𝓤 H (tripleOf 𝓤 H (𝓖 .A) write.signature (write.spec 𝓤 H (𝓖 .A) (𝓜 .mem) (𝓡 .run)))

@@ -1,4 +1,5 @@
--- `list_short` meets its contract: `Filled.antt` over `counted`, with an array of 3840 numbers.
+-- `list_short` meets its contract: `Filled.antt` over `counted`, with an array for 256 records.
+use Prim.Native.Nat.{_*_}
 use mathlib.Core.Path.{refl}
 use native.Mathlib.Omega.{arith}
 use lib.Dec.{lit<}
@@ -10,6 +11,7 @@ use denote.Triple.Table.{entered, cited}
 use Rattle.listing.proofs.write_rows as write
 use Rattle.listing.proofs.write_rows.Symbol as write-def
 use Rattle.listing.proofs.write_rows.Met as write-thm
+use Rattle.rows.specs.Rows.{spanWidth}
 use Rattle.answer.proofs.counted as counted
 use Rattle.answer.proofs.counted.Symbol as counted-def
 use Rattle.answer.proofs.counted.Met as counted-thm
@@ -24,8 +26,8 @@ unfolding code.routine tablesOf
 list-short-spec 𝓤 H 𝓜 𝓖 𝓡 =
     entered 𝓤 H (tripleOf 𝓤 H (𝓖 .A) f.signature (f.spec 𝓤 H (𝓖 .A) (𝓜 .mem) (𝓡 .run)))
     (tables 𝓤 H 𝓜 𝓡 code.env .C) (tables 𝓤 H 𝓜 𝓡 code.env .Λ) key.name code.function (code.unfolded 𝓤 H 𝓜 𝓡)
-    (lists 𝓤 H (𝓖 .A) (givenOf 𝓤 H 𝓜 𝓖) (𝓜 .mem) (𝓡 .run) (tablesOf 𝓤 H 𝓜 (tables 𝓤 H 𝓜 𝓡 code.env)) 3840 (lit< tt, lit< tt)
-    (λ κs a. f.clauses 𝓤 H (𝓖 .A) (𝓜 .mem) (𝓡 .run) κs a .requires tt) (λ κs a. fact-mono 𝓤 _ (Asks (now (a .1 .0)) 3840) (λ small h. omega arith))
+    (lists 𝓤 H (𝓖 .A) (givenOf 𝓤 H 𝓜 𝓖) (𝓜 .mem) (𝓡 .run) (tablesOf 𝓤 H 𝓜 (tables 𝓤 H 𝓜 𝓡 code.env)) (spanWidth * 256) (lit< tt, lit< tt)
+    (λ κs a. f.clauses 𝓤 H (𝓖 .A) (𝓜 .mem) (𝓡 .run) κs a .requires tt) (λ κs a. fact-mono 𝓤 _ (Asks (now (a .1 .0)) (spanWidth * 256)) (λ small h. omega arith))
     (cited 𝓤 H (tripleOf 𝓤 H (𝓖 .A) counted.signature (counted.spec 𝓤 H (𝓖 .A) (𝓜 .mem) (𝓡 .run)))
     𝓜 𝓡 code.env counted-def.name counted-def.routine code.calls-answer·counted (counted-thm.met 𝓤 H 𝓜 𝓖 𝓡))
     (cited 𝓤 H (tripleOf 𝓤 H (𝓖 .A) write.signature (write.spec 𝓤 H (𝓖 .A) (𝓜 .mem) (𝓡 .run)))

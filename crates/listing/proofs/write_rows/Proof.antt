@@ -19,31 +19,29 @@ use denote.Triple.Statement.{Triple}
 use denote.Triple.Table.{entered, cited}
 use Rattle.layout.proofs.Span as T
 use Rattle.layout.proofs.Span.Laws as T′
-use Rattle.rows.specs.Rows.{spanAt, spansOf}
+use Rattle.rows.specs.Rows.{spanWidth, SpanRoom, spanAt, spansOf}
 use Rattle.rows.proofs.span_at as span
 use Rattle.rows.proofs.span_at.Symbol as span-def
 use Rattle.rows.proofs.span_at.Met as span-thm
+use Rattle.listing.specs.Overwrite.{Writable}
 use Rattle.listing.proofs.Each.{each-meets}
 use Rattle.listing.proofs.write_rows.Key as key
 use Rattle.listing.proofs.write_rows as f
 use Rattle.listing.proofs.write_rows.Statement as stated
 use Rattle.listing.proofs.write_rows.Code as code
 
--- what is asked, and what `span_at` asks
-abbrev Few : List ℕ → ℕ → ℕ → Type 0
-Few l n k = (n ≤ 2048) × (15 * n ≤ length l) × (n ≤ k)
-
+-- what `span_at` asks
 abbrev Reads : List ℕ → ℕ → Type 0
-Reads l i = (i < 2048) × (15 * i + 15 ≤ length l)
+Reads l i = (i < 2048) × SpanRoom (i + 1) l
 
-reads : (l : List ℕ) (n k : ℕ) → Few l n k → (i : ℕ) → i < n → Reads l i
-reads l n k few i h = (omega (arith, few .0), omega (arith, few .1))
+reads : (l : List ℕ) (n k : ℕ) → Writable l n k → (i : ℕ) → i < n → Reads l i
+reads l n k asked i h = (omega (arith, asked .few), omega (arith, asked .long))
 
 module _ {M : Type 1} (𝓤 : URA M) (H : Heap 𝓤) (A : Atoms 𝓤) (W : Given 𝓤 H A) (mem : Memory → SProp 𝓤) (run : Routine → Fun 𝓤) (𝓣 : Tables 𝓤 H) where
   meets : Triple 𝓤 (𝓣 .C span-def.name) (tripleOf 𝓤 H A span.signature (span.spec 𝓤 H A mem run))
       → Triple 𝓤 (WpFn 𝓤 H (𝓣 .C) (𝓣 .Λ) code.function) (tripleOf 𝓤 H A f.signature (f.spec 𝓤 H A mem run))
   unfolding spansOf
-  meets known = each-meets T.the-type T′.the-laws 30 tt refl span-def.name spanAt Few Reads (λ l n k few. few .2) reads 𝓤 H A W
+  meets known = each-meets T.the-type T′.the-laws (2 * spanWidth) tt refl span-def.name spanAt Writable Reads (λ l n k asked. asked .lent) reads 𝓤 H A W
       ((LL.makes T.the-type T′.the-plain) 𝓤 H A) 𝓣 known
 
 pub write-rows-spec : {M : Type 1} → stated.statement M
