@@ -6,10 +6,11 @@ use replay::Input;
 use replay::Phase;
 use replay::Stream;
 ghost use mathlib.Core.Path.{_≡_};
-ghost use Prim.Native.Nat.{_≤_};
+ghost use Prim.Native.Nat.{_*_, _≤_};
 ghost use lib.ListN.{length};
 ghost use Rattle.replay_listings.specs.BothFit.{BothFit};
 ghost use Rattle.replay.specs.Text.{Within};
+ghost use Rattle.rows.specs.Rows.{spanWidth};
 
 // The sign file that came last, and the case whose answers are read.
 // len, text: the bytes of the file and of the message. seen: a file came. answer, row: the next answer, and its next record.
@@ -109,7 +110,7 @@ fn is_shown(line: &[u8], s: Span) -> bool {
 
 // Whether a line is a record of the last answer.
 fn is_record(line: &[u8], row: usize, out: &[u16]) -> bool
-    requires { ⌜ length (now out) ≡ 30720 ⌝ }
+    requires { ⌜ length (now out) ≡ spanWidth * 2048 ⌝ }
 {
     if 2048 <= row {
         return false;
@@ -202,8 +203,8 @@ impl Check {
         msg: &[u8],
         out: &mut [u16],
     ) -> Check
-        requires { ⌜ length (now out) ≡ 30720 ⌝ }
-        ensures { λ r. ⌜ BothFit r (self .len) (self .text) × (length (now (out .exit)) ≡ 30720) ⌝ }
+        requires { ⌜ length (now out) ≡ spanWidth * 2048 ⌝ }
+        ensures { λ r. ⌜ BothFit r (self .len) (self .text) × (length (now (out .exit)) ≡ spanWidth * 2048) ⌝ }
     {
         let a = answer::compute(file, msg, self.answer, 1400, out);
         self.answer = next_place(self.answer);
@@ -214,7 +215,7 @@ impl Check {
 
     // After a record.
     fn recorded(mut self, line: &[u8], number: u32, out: &[u16]) -> Check
-        requires { ⌜ length (now out) ≡ 30720 ⌝ }
+        requires { ⌜ length (now out) ≡ spanWidth * 2048 ⌝ }
         ensures { λ r. ⌜ BothFit r (self .len) (self .text) ⌝ }
     {
         let row = self.row;
@@ -232,8 +233,8 @@ impl Check {
         msg: &[u8],
         out: &mut [u16],
     ) -> Check
-        requires { ⌜ length (now out) ≡ 30720 ⌝ }
-        ensures { λ r. ⌜ BothFit r (self .len) (self .text) × (length (now (out .exit)) ≡ 30720) ⌝ }
+        requires { ⌜ length (now out) ≡ spanWidth * 2048 ⌝ }
+        ensures { λ r. ⌜ BothFit r (self .len) (self .text) × (length (now (out .exit)) ≡ spanWidth * 2048) ⌝ }
     {
         if let Phase::Listing = phase {
             return self.answered(line, number, file, msg, out);
@@ -269,8 +270,8 @@ impl Check {
         msg: &mut [u8],
         out: &mut [u16],
     ) -> Check
-        requires { ⌜ BothFit self (length (now file)) (length (now msg)) × (length (now out) ≡ 30720) ⌝ }
-        ensures { λ r. ⌜ BothFit r (length (now (file .exit))) (length (now (msg .exit))) × (length (now (out .exit)) ≡ 30720) ⌝ }
+        requires { ⌜ BothFit self (length (now file)) (length (now msg)) × (length (now out) ≡ spanWidth * 2048) ⌝ }
+        ensures { λ r. ⌜ BothFit r (length (now (file .exit))) (length (now (msg .exit))) × (length (now (out .exit)) ≡ spanWidth * 2048) ⌝ }
     {
         let phase = s.phase;
         if lists(phase) {
@@ -329,8 +330,8 @@ impl Check {
         msg: &mut [u8],
         out: &mut [u16],
     ) -> Check
-        requires { ⌜ Within (input .came) (length (now buf)) × BothFit self (length (now file)) (length (now msg)) × (length (now out) ≡ 30720) ⌝ }
-        ensures { λ r. ⌜ BothFit r (length (now (file .exit))) (length (now (msg .exit))) × (length (now (out .exit)) ≡ 30720) ⌝ }
+        requires { ⌜ Within (input .came) (length (now buf)) × BothFit self (length (now file)) (length (now msg)) × (length (now out) ≡ spanWidth * 2048) ⌝ }
+        ensures { λ r. ⌜ BothFit r (length (now (file .exit))) (length (now (msg .exit))) × (length (now (out .exit)) ≡ spanWidth * 2048) ⌝ }
     {
         if !input.read {
             return self;

@@ -6,6 +6,8 @@ use libc::STDOUT_FILENO;
 use replay::Input;
 ghost use lib.ListN.{length};
 ghost use mathlib.Core.Path.{_≡_};
+ghost use Prim.Native.Nat.{_*_};
+ghost use Rattle.rows.specs.Rows.{spanWidth};
 
 // `refused NUMBER COUNT`, or `end COUNT` for 0.
 fn print_ending(number: u64, count: u32) {
@@ -44,7 +46,7 @@ fn print_all(input: Input, check: Check) {
 
 // Nothing says that the input ends: the turns are counted down from a number that no run uses up.
 fn run_all(buf: &mut [u8], file: &mut [u8], msg: &mut [u8], out: &mut [u16])
-    requires { ⌜ length (now out) ≡ 30720 ⌝ }
+    requires { ⌜ length (now out) ≡ spanWidth * 2048 ⌝ }
 {
     let mut input = Input::start();
     let mut check = compare::none();
@@ -61,6 +63,6 @@ fn main() {
     let mut buf = [0u8; 524288];
     let mut file = [0u8; 131072];
     let mut msg = [0u8; 8192];
-    let mut out = [0u16; 30720];
+    let mut out = [0u16; rows::SPAN_ROOM];
     run_all(&mut buf, &mut file, &mut msg, &mut out);
 }

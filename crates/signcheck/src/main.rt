@@ -1,6 +1,5 @@
 // Tells whether a message is accepted on a sign: sign.bin in the current folder is the sign file, standard input the message. Prints how many
 // answers its listing has, or the sentence of its first refusal; below it the message around the refusal's place, with the place marked.
-ghost use mathlib.Core.Path.{_≡_};
 ghost use Prim.Native.Nat.{_+_, _≤_};
 ghost use lib.ListN.{length};
 use layout::Answer;
@@ -8,19 +7,6 @@ use libc::STDIN_FILENO;
 use libc::STDOUT_FILENO;
 use refusal::Refusal;
 use sentence::Told;
-
-// A sign.bin that can't be opened counts as empty.
-fn read_sign(buf: &mut [u8]) -> usize
-    ensures { λ r. ⌜ (r ≤ length (now (buf .exit))) × (length (now (buf .exit)) ≡ length (now (buf .entry))) ⌝ }
-{
-    let fd = os::open_read(b"sign.bin");
-    if fd < 0 {
-        return 0;
-    }
-    let n = io::read_full(fd, buf);
-    libc::close(fd);
-    n
-}
 
 // A byte as it is shown: one column each.
 fn shown(b: u8) -> u8 {
@@ -130,10 +116,10 @@ fn print_answer(msg: &[u8], a: Answer) {
 // A message has at most 1,026 answers: the answer of that number is the end, or the first refusal.
 fn main() {
     let mut sign = io::large_buffer();
-    let n = read_sign(&mut sign);
+    let n = signbin::load(&mut sign);
     let mut message = [0u8; 2049];
     let k = io::read_full(STDIN_FILENO, &mut message);
-    let mut out = [0u16; 30720];
+    let mut out = [0u16; rows::SPAN_ROOM];
     let a = answer::compute(&sign[..n], &message[..k], 1026, 1400, &mut out);
     print_answer(&message[..k], a);
 }

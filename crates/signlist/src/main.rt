@@ -2,26 +2,14 @@
 // read, then each answer: on and its duration, with a line for each span (start, length, x, y, width, height, font); off and its duration;
 // the end with the count of answers; or a refusal with number, start, length and detail, which ends the listing.
 ghost use mathlib.Core.Path.{_≡_};
-ghost use Prim.Native.Nat.{_≤_};
+ghost use Prim.Native.Nat.{_*_};
 ghost use lib.ListN.{length};
+ghost use Rattle.rows.specs.Rows.{spanWidth};
 use layout::Answer;
 use layout::Span;
 use libc::STDIN_FILENO;
 use libc::STDOUT_FILENO;
 use refusal::Refusal;
-
-// A sign.bin that can't be opened counts as empty.
-fn read_sign(buf: &mut [u8]) -> usize
-    ensures { λ r. ⌜ (r ≤ length (now (buf .exit))) × (length (now (buf .exit)) ≡ length (now (buf .entry))) ⌝ }
-{
-    let fd = os::open_read(b"sign.bin");
-    if fd < 0 {
-        return 0;
-    }
-    let n = io::read_full(fd, buf);
-    libc::close(fd);
-    n
-}
 
 fn print_next(n: u16) {
     io::write_all(STDOUT_FILENO, b" ");
@@ -54,7 +42,7 @@ fn print_refusal(r: Refusal) {
 
 // The first count spans of the slice.
 fn print_spans(out: &[u16], count: usize)
-    requires { ⌜ length (now out) ≡ 30720 ⌝ }
+    requires { ⌜ length (now out) ≡ spanWidth * 2048 ⌝ }
 {
     let mut i: usize = 0;
     while i < count {
@@ -67,7 +55,7 @@ fn print_spans(out: &[u16], count: usize)
 }
 
 fn print_on(duration: u16, count: u16, out: &[u16])
-    requires { ⌜ length (now out) ≡ 30720 ⌝ }
+    requires { ⌜ length (now out) ≡ spanWidth * 2048 ⌝ }
 {
     io::write_all(STDOUT_FILENO, b"on");
     print_next(duration);
@@ -77,7 +65,7 @@ fn print_on(duration: u16, count: u16, out: &[u16])
 
 // Prints an answer, and tells whether others follow.
 fn print_answer(a: Answer, out: &[u16]) -> bool
-    requires { ⌜ length (now out) ≡ 30720 ⌝ }
+    requires { ⌜ length (now out) ≡ spanWidth * 2048 ⌝ }
 {
     match a {
         Answer::On(duration, count) => {
@@ -105,7 +93,7 @@ fn print_answer(a: Answer, out: &[u16]) -> bool
 
 // Prints answer after answer; a message has at most 1,026.
 fn print_all(file: &[u8], msg: &[u8], out: &mut [u16])
-    requires { ⌜ length (now out) ≡ 30720 ⌝ }
+    requires { ⌜ length (now out) ≡ spanWidth * 2048 ⌝ }
 {
     let mut i: usize = 0;
     while i < 65536 {
@@ -119,12 +107,12 @@ fn print_all(file: &[u8], msg: &[u8], out: &mut [u16])
 
 fn main() {
     let mut sign = io::large_buffer();
-    let n = read_sign(&mut sign);
+    let n = signbin::load(&mut sign);
     let mut message = [0u8; 2049];
     let k = io::read_full(STDIN_FILENO, &mut message);
     io::write_all(STDOUT_FILENO, b"message ");
     io::print_decimal(STDOUT_FILENO, k as u64);
     end_line();
-    let mut out = [0u16; 30720];
+    let mut out = [0u16; rows::SPAN_ROOM];
     print_all(&sign[..n], &message[..k], &mut out);
 }

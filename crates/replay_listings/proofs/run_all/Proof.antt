@@ -1,15 +1,17 @@
+use Prim.Native.Nat.{_*_}
 use borrow.Author.Needs.{needs}
 use lib.ListN.{length}
 use mathlib.Core.Path.{_≡_}
 use Rattle.replay_listings.specs.BothFit.{BothFit}
 use Rattle.replay.specs.Text.{Within}
+use Rattle.rows.specs.Rows.{spanWidth}
 use Rattle.replay_listings.proofs.run_all.Statement.{statement}
 use Rattle.replay_listings.proofs.run_all.Tie as tie
 
 abbrev Inv-loop : tie.InvT-loop
 Inv-loop buf₀ file₀ msg₀ out₀ input₀ check₀ turns₀ buf file msg out input check turns =
     Within (input .window) (length buf) × BothFit check (length file) (length msg) × (length buf ≡ length buf₀)
-    × (length file ≡ length file₀) × (length msg ≡ length msg₀) × (length out ≡ 30720)
+    × (length file ≡ length file₀) × (length msg ≡ length msg₀) × (length out ≡ spanWidth * 2048)
 
 abbrev μ-loop : tie.MeasureT-loop
 μ-loop buf₀ file₀ msg₀ out₀ input₀ check₀ turns₀ buf file msg out input check turns = turns

@@ -1,12 +1,13 @@
-use Prim.Native.Nat.{_-_}
+use Prim.Native.Nat.{_*_, _-_}
 use mathlib.Core.Path.{_≡_}
 use lib.ListN.{length}
 use borrow.Author.Needs.{needs}
+use Rattle.rows.specs.Rows.{spanWidth}
 use Rattle.signlist.proofs.print_all.Statement.{statement}
 use Rattle.signlist.proofs.print_all.Tie as tie
 
 abbrev Inv-loop : tie.InvT-loop
-Inv-loop file msg out₀ i₀ out i = length out ≡ 30720
+Inv-loop file msg out₀ i₀ out i = length out ≡ spanWidth * 2048
 
 abbrev μ-loop : tie.MeasureT-loop
 μ-loop file msg out₀ i₀ out i = 65536 - i
