@@ -38,7 +38,7 @@ use Rattle.pages.specs.declared.NextPage.{NextPage}
 use Rattle.pages.specs.declared.NextPage.the-variants.{Page as NextShown, End as NextNone, Refused as NextRefused}
 use Rattle.pages.specs.Pages.{boardIn, Ready, firstOf, todo, shownPage, nextTold, InMessage, weight, IfShown, Advances, NextAsked, NextRead}
 use Rattle.pages.proofs.Answers.{pages-todo, first-in}
-use Rattle.answer.specs.Answer.{writtenBy, told, answerBy, Answerable, countOf, RecordRoom, Numbered, Listable, WithRoom, Computed, Counted}
+use Rattle.answer.specs.Answer.{writtenBy, told, answerBy, Answerable, countOf, RecordRoom, Numbered, Listable, Computed, Counted}
 
 -- ---- an answer of a page
 
@@ -190,18 +190,6 @@ module _ {file : List ℕ} {table : SignFile} {msg : List ℕ} {number : ℕ} {r
     pub numbered-asked : {r : Answer} → number ≤ i → r ≡ answerBy t i → Tells r
     numbered-asked h c = subst Tells (sym c) (record { ends = asked (number - i) t (omega arith) ∙ here refl; few = few t (read .next); room = numbered-room })
 
--- ---- 4
-
-module _ (file : List ℕ) (table : SignFile) (msg : List ℕ) (n room : ℕ) (out : List ℕ) where
-  abbrev Lists : List ℕ → Answer → Type 0
-  Lists = WithRoom file table msg n room out
-
-  pub no-room : {r : Answer} → room < 1400 → r ≡ Refused (refusal 4 0 0 0) → Lists out r
-  no-room g e = subst (Lists out) (sym e) (record { ends = rw (lt-ltb room 1400 g); few = omega arith; long = refl })
-
-  pub all-well : {out′ : List ℕ} {r : Answer} → 1400 ≤ room → Listable file table msg out → Numbered file table msg n out out′ r → Lists out′ r
-  all-well g q d = record { ends = rw (le-ltb room 1400 g) (d .ends); few = omega (arith, q .room, d .few); long = d .room }
-
 -- ---- the call
 
 board-is : (file msg : List ℕ) (c : Config) (fs : List Font) → signFile file ≡ Accepted c fs → boardIn file msg c ≡ boardOf msg c fs
@@ -222,18 +210,26 @@ module _ (file msg : List ℕ) {x : Admitted} (e : x ≡ handed (admission file 
         let o : Opens file msg (x .table) = opens file msg e h in
         record { opened = (o .table, o .accepted); small = o .admits-it .small; room = q (o .admits-it .small) }
 
-    pub call-listed : {n room : ℕ} {out out′ : List ℕ} {r : Answer} → WithRoom file (x .table) msg n room out out′ r → Computed file msg n room out out′ r
-    unfolding result
-    call-listed {n} {room} d =
-        let o : Opens file msg (x .table) = opens file msg e h in
-        let after : Board → Result = λ y. pick (ltb room 1400) (said (Refused (refusal 4 0 0 0))) (numbered 0 (pages y (items msg)) n) in
-        record {
-          ends =
-              d .ends ∙ ap after (board-is file msg (x .table .config) (o .fs) (o .admits-it .sign))
-              ∙ ap (λ (a : Admission). resultOn a msg n room) (sym (o .is));
-          few = d .few;
-          long = d .long;
-        }
+    module _ (n room : ℕ) (out : List ℕ) where
+      -- what is behind the refusals of every call
+      behind : result file msg n room
+          ≡ pick (ltb room 1400) (said (Refused (refusal 4 0 0 0))) (numbered 0 (pages (boardIn file msg (x .table .config)) (items msg)) n)
+      unfolding result
+      behind =
+          let o : Opens file msg (x .table) = opens file msg e h in
+          let after : Board → Result = λ y. pick (ltb room 1400) (said (Refused (refusal 4 0 0 0))) (numbered 0 (pages y (items msg)) n) in
+          ap (λ (a : Admission). resultOn a msg n room) (o .is) ∙ sym (ap after (board-is file msg (x .table .config) (o .fs) (o .admits-it .sign)))
+
+      pub call-short : {r : Answer} → room < 1400 → r ≡ Refused (refusal 4 0 0 0) → Computed file msg n room out out r
+      call-short g d =
+          subst (Computed file msg n room out out) (sym d)
+          (record { ends = sym (behind ∙ rw (lt-ltb room 1400 g)); few = omega arith; long = refl })
+
+      pub call-listed : {out′ : List ℕ} {r : Answer} → 1400 ≤ room → RecordRoom msg out → Numbered file (x .table) msg n out out′ r
+          → Computed file msg n room out out′ r
+      call-listed g q d =
+          let l : Listable file (x .table) msg out = call-listable q in
+          record { ends = d .ends ∙ sym (behind ∙ rw (le-ltb room 1400 g)); few = omega (arith, l .room, d .few); long = d .room }
 
 -- ---- the count of the records
 

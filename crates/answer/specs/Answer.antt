@@ -63,13 +63,6 @@ pub record Numbered (file : List ℕ) (table : SignFile) (msg : List ℕ) (numbe
   pub few : countOf r ≤ length msg
   pub room : length out′ ≡ length out
 
--- the answer of a number, with room records lent
-pub record WithRoom (file : List ℕ) (table : SignFile) (msg : List ℕ) (number room : ℕ) (out out′ : List ℕ) (r : Answer) : Type 0 where
-  pub ends : told r out′
-      ≡ pick (ltb room 1400) (said (Refused (refusal 4 0 0 0))) (numbered 0 (pages (boardIn file msg (table .config)) (items msg)) number)
-  pub few : SpanRoom (countOf r) out
-  pub long : length out′ ≡ length out
-
 -- the answer of a call, with room records lent
 pub record Computed (file msg : List ℕ) (number room : ℕ) (out out′ : List ℕ) (r : Answer) : Type 0 where
   pub ends : told r out′ ≡ result file msg number room

@@ -1,7 +1,7 @@
 // The computation of an answer: sign file, message, answer number and room give the answer, and its records as rows of numbers.
 ghost use mathlib.Core.Path.{_≡_};
 ghost use Rattle.pages.specs.Pages.{Ready};
-ghost use Rattle.answer.specs.Answer.{answerBy, Answerable, countOf, RecordRoom, Numbered, Listable, WithRoom, Computed, Counted};
+ghost use Rattle.answer.specs.Answer.{answerBy, Answerable, countOf, RecordRoom, Numbered, Listable, Computed, Counted};
 use layout::Answer;
 use pages::NextPage;
 use refusal::OptRefusal;
@@ -69,30 +69,8 @@ fn paged(file: &[u8], table: SignFile, msg: &[u8], number: usize, out: &mut [u16
     numbered(file, table, msg, number, &mut rows, out)
 }
 
-// 4, the listing's own refusal of a call, and the answer: sign file and message are admitted.
-fn with_room(
-    file: &[u8],
-    table: SignFile,
-    msg: &[u8],
-    number: usize,
-    room: usize,
-    out: &mut [u16],
-) -> Answer
-    requires { ⌜ Listable (now file) table (now msg) (now out) ⌝ }
-    ensures { λ r. ⌜ WithRoom (now (file .entry)) table (now (msg .entry)) number room (now (out .entry)) (now (out .exit)) r ⌝ }
-{
-    if room < 1400 {
-        return Answer::Refused(Refusal {
-            number: 4,
-            start: 0,
-            length: 0,
-            detail: 0,
-        });
-    }
-    paged(file, table, msg, number, out)
-}
-
-// The answer, and its records first in the slice, which has room for as many as the message has bytes.
+// The answer, and its records first in the slice, which has room for as many as the message has bytes. Behind the refusals of every call
+// comes 4, the listing's own.
 pub fn compute(file: &[u8], msg: &[u8], number: usize, room: usize, out: &mut [u16]) -> Answer
     requires { ⌜ RecordRoom (now msg) (now out) ⌝ }
     ensures { λ r. ⌜ Computed (now (file .entry)) (now (msg .entry)) number room (now (out .entry)) (now (out .exit)) r ⌝ }
@@ -101,7 +79,17 @@ pub fn compute(file: &[u8], msg: &[u8], number: usize, room: usize, out: &mut [u
     let denied = call.denied;
     match denied {
         OptRefusal::Some(r) => Answer::Refused(r),
-        OptRefusal::None => with_room(file, call.table, msg, number, room, out),
+        OptRefusal::None => {
+            if room < 1400 {
+                return Answer::Refused(Refusal {
+                    number: 4,
+                    start: 0,
+                    length: 0,
+                    detail: 0,
+                });
+            }
+            paged(file, call.table, msg, number, out)
+        }
     }
 }
 

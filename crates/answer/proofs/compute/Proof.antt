@@ -1,4 +1,4 @@
-use Rattle.answer.proofs.Laws.{call-denied, call-listable, call-listed}
+use Rattle.answer.proofs.Laws.{call-denied, call-short, call-listable, call-listed}
 use borrow.Author.Needs.{needs}
 use Rattle.answer.proofs.compute.Statement.{statement}
 use Rattle.answer.proofs.compute.Tie as tie
@@ -9,7 +9,8 @@ compute-spec =
     (λ c κs. search needs)  -- admit-requires
     (λ c. search needs)  -- enum-known-denied
     (λ c. search needs)  -- enum-told
-    (λ c κs. search call-listable)  -- with-room-requires
-    (λ c. search call-denied)  -- returns
+    (λ c. search call-short)  -- returns
+    (λ c κs. search call-listable)  -- paged-requires
+    (λ c. search call-denied)  -- returns-2
     (λ c. search needs)  -- same-length
-    (λ c. search call-listed))  -- returns-2
+    (λ c. search call-listed))  -- returns-3
