@@ -17,4 +17,4 @@ read-answer-spec =
     (λ c. search needs)  -- cast-t14
     (λ c. let t : tie.After-r = search in rw (t .r .given .1) (cc))  -- returns
     (λ c. rw (c .enum-told .given .1))  -- returns-2
-    (λ c. let t : tie.After-r2 = search in rw (t .r2 .given .1) (cc)))  -- returns-3
+    (λ c. let t : tie.After-r2 = search in let w : tie.After-wide32 = search in rw (t .r2 .given .1, w .wide32 .ensures)))  -- returns-3
