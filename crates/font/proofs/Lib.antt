@@ -3,3 +3,4 @@ pub mod Tables
 pub mod Filled
 pub mod Codes
 pub mod Texts
+pub mod Counts

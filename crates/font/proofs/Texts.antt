@@ -1,8 +1,9 @@
 -- The ways on and out of the loop over a text.
-use Prim.Native.Nat.{ℕ, _+_, _-_, _*_, _≤_, _<_}
+use Prim.Native.Nat.{ℕ, suc, _+_, _-_, _*_, _≤_, _<_}
 use mathlib.Core.Path.{_≡_, refl, sym, _∙_, ap}
 use mathlib.Core.List.{List, [], _∷_}
 use mathlib.Core.Bool.{Bool, true, false}
+use native.Mathlib.Nat.{zero-add}
 use native.Mathlib.Omega.{arith}
 use lib.Dec.{ltb}
 use lib.ListN.{length, getD, take, drop}
@@ -18,10 +19,11 @@ use Rattle.font.specs.Character.{characterIn}
 use Rattle.font.specs.Widths.{inTable, StandsFor, Widths}
 use Rattle.font.specs.declared.Found.{Found}
 use Rattle.font.specs.declared.Found.the-variants.{Is, Missing as Absent}
-use Rattle.font.specs.Measure.{widened, withWidth, widthAfter, textWidth}
+use Rattle.font.specs.Measure.{widened, withWidth, widthAfter, textWidth, lookedOn, lookedUp, measureOf}
 use Rattle.font.specs.Grown.{OneMore}
 use Rattle.font.specs.declared.Measure.{Measure}
 use Rattle.font.specs.declared.Measure.the-variants.{Width, Missing}
+use Rattle.font.specs.declared.Looked.{Looked}
 
 -- `wider`: s and m are the spacing and the character's width
 module _ (w spacing more s m : ℕ) (p : s ≡ spacing) (q : m ≡ more) where
@@ -68,88 +70,119 @@ widened-le w spacing more h k = go (ltb 0 w)
     go true = omega arith
     go false = omega arith
 
-module _ (chs : List Character) (w spacing code x : ℕ) (so : StandsFor chs code x) where
+module _ (chs : List Character) (w n spacing code x : ℕ) (so : StandsFor chs code x) where
   abbrev on : ℕ → Measure
   on more = Width (widened w spacing more)
 
-  pub with-none : x ≡ 0 → OneMore chs spacing w code (Missing code)
+  pub with-none : x ≡ 0 → OneMore chs spacing w n code (record { measure = Missing code; count = n + 1 })
   unfolding widthAfter
-  with-none z = record { is = sym (after-none (characterIn code chs) code on (sym z ∙ so .is)); grown = tt }
+  with-none z = record { is = sym (after-none (characterIn code chs) code on (sym z ∙ so .is)); one = refl; grown = tt }
 
-  pub with-some : (x ≡ 0 → ⊥) → spacing < 65536 → (v : ℕ) → v ≡ widened w spacing (x - 1) → OneMore chs spacing w code (Width v)
+  pub with-some : (x ≡ 0 → ⊥) → spacing < 65536 → (v : ℕ) → v ≡ widened w spacing (x - 1)
+      → OneMore chs spacing w n code (record { measure = Width v; count = n + 1 })
   unfolding widthAfter
-  with-some n s v d =
+  with-some z s v d =
       record {
-        is = ap Width d ∙ sym (after-some (characterIn code chs) code on x (so .is) n);
+        is = ap Width d ∙ sym (after-some (characterIn code chs) code on x (so .is) z);
+        one = refl;
         grown = rw d (widened-le w spacing (x - 1) s (omega (arith, so .small)));
       }
 
 pub ruleset with-ways = (with-none, with-some)
 
--- `short_width`: the text from a place on, after a width so far, is as wide as the whole
-pub record Measuring (chs : List Character) (spacing : ℕ) (text : List ℕ) (w at : ℕ) : Type 0 where
+-- `short_width`: the text from a place on, after a width so far, is as wide as the whole; n characters were looked up
+pub record Measuring (chs : List Character) (spacing : ℕ) (text : List ℕ) (w n at : ℕ) : Type 0 where
   pub small : w ≤ 65790 * at
+  pub few : n ≤ at
   pub same : widthAfter chs spacing w (codes (drop at text)) ≡ textWidth chs spacing (codes text)
+  pub counted : n + lookedUp chs (codes (drop at text)) ≡ lookedUp chs (codes text)
 
-pub width-start : (chs : List Character) (spacing : ℕ) (text : List ℕ) → Measuring chs spacing text 0 0
+pub width-start : (chs : List Character) (spacing : ℕ) (text : List ℕ) → Measuring chs spacing text 0 0 0
 unfolding textWidth
-width-start chs spacing text = record { small = omega arith; same = refl }
+width-start chs spacing text = record { small = omega arith; few = omega arith; same = refl; counted = zero-add _ }
 
-after-missing : (f : Found) (code x : ℕ) (g : ℕ → ℕ) (on : ℕ → Measure) → withWidth f code (λ more. Width (g more)) ≡ Missing x
-    → withWidth f code on ≡ Missing code
-after-missing (Is more bitmap) code x g on e = never (let z : _≡_ {A = ℕ} 0 1 = cc in z)
-after-missing Absent code x g on e = refl
+-- what a character was found to be, by the measure of it alone
+found-none : (f : Found) (code x : ℕ) (g : ℕ → ℕ) → withWidth f code (λ more. Width (g more)) ≡ Missing x → f ≡ Absent
+found-none (Is more bitmap) code x g e = never (let z : _≡_ {A = ℕ} 0 1 = cc in z)
+found-none Absent code x g e = refl
 
-after-width : (f : Found) (code v : ℕ) (g : ℕ → ℕ) (on : ℕ → Measure) → withWidth f code (λ more. Width (g more)) ≡ Width v
-    → withWidth f code (λ more. on (g more)) ≡ on v
-after-width (Is more bitmap) code v g on e =
-    let d : g more ≡ v = cc in
-    rw d
-after-width Absent code v g on e = never (let z : _≡_ {A = ℕ} 0 1 = cc in z)
+record Wide (f : Found) (g : ℕ → ℕ) (v : ℕ) : Type 0 where
+  more : ℕ
+  bitmap : ℕ
+  is : f ≡ Is more bitmap
+  width : g more ≡ v
 
-module _ (chs : List Character) (spacing : ℕ) (text : List ℕ) (w at : ℕ) (so : Measuring chs spacing text w at) where
-  pub width-end : length text ≤ at → Width w ≡ textWidth chs spacing (codes text)
-  unfolding widthAfter
-  width-end h = rw (codes-end text at h) at (so .same)
+found-some : (f : Found) (code v : ℕ) (g : ℕ → ℕ) → withWidth f code (λ more. Width (g more)) ≡ Width v → Wide f g v
+found-some (Is more bitmap) code v g e = record { more = more; bitmap = bitmap; is = refl; width = cc }
+found-some Absent code v g e = never (let z : _≡_ {A = ℕ} 0 1 = cc in z)
+
+pub looked-is : (r : Looked) (m : Measure) (n : ℕ) → r .measure ≡ m → r .count ≡ n → r ≡ record { measure = m; count = n }
+looked-is r m n p q = rw (← p, ← q)
+
+module _ (chs : List Character) (spacing : ℕ) (text : List ℕ) (w n at : ℕ) (so : Measuring chs spacing text w n at) where
+  pub width-end : length text ≤ at → record { measure = Width w; count = n } ≡ measureOf chs spacing (codes text)
+  unfolding widthAfter lookedUp
+  width-end h =
+      let a : Width w ≡ textWidth chs spacing (codes text) = rw (codes-end text at h) at (so .same) in
+      let b : n + 0 ≡ lookedUp chs (codes text) = rw (codes-end text at h) at (so .counted) in
+      looked-is (record { measure = Width w; count = n }) (textWidth chs spacing (codes text)) (lookedUp chs (codes text)) a (omega (arith, b))
 
   module _ (h : at < length text) where
     pub width-room : length text ≤ 65000 → w ≤ 65790 * 65000
     width-room k = omega (arith, so .small)
 
-    -- r is the answer of `with_character`
-    module _ (c : Code) (e : c ≡ codeAt text at) (r : Measure) (q : OneMore chs spacing w (c .code) r) where
-      abbrev later : ℕ → Measure
-      later v = widthAfter chs spacing v (codes (drop (at + c .len) text))
+    pub count-room : length text ≤ 65000 → n ≤ 65000
+    count-room k = omega (arith, so .few)
 
-      here : withWidth (characterIn (c .code) chs) (c .code) (λ more. later (widened w spacing more)) ≡ textWidth chs spacing (codes text)
+    -- r is the answer of `with_character`
+    module _ (c : Code) (e : c ≡ codeAt text at) (r : Looked) (q : OneMore chs spacing w n (c .code) r) where
+      abbrev found : Found
+      found = characterIn (c .code) chs
+
+      abbrev later : List ℕ
+      later = codes (drop (at + c .len) text)
+
+      here : withWidth found (c .code) (λ more. widthAfter chs spacing (widened w spacing more) later) ≡ textWidth chs spacing (codes text)
       unfolding widthAfter
       here = rw (codes-next text at c e h) at (so .same)
 
-      one : withWidth (characterIn (c .code) chs) (c .code) (λ more. Width (widened w spacing more)) ≡ r
+      here-count : n + suc (lookedOn found (lookedUp chs later)) ≡ lookedUp chs (codes text)
+      unfolding lookedUp
+      here-count = rw (codes-next text at c e h) at (so .counted)
+
+      one : withWidth found (c .code) (λ more. Width (widened w spacing more)) ≡ r .measure
       unfolding widthAfter
       one = sym (q .is)
 
-      pub width-missing : (x : ℕ) → r ≡ Missing x → Missing (c .code) ≡ textWidth chs spacing (codes text)
+      pub width-missing : (x : ℕ) → r .measure ≡ Missing x → r ≡ measureOf chs spacing (codes text)
       width-missing x z =
-          sym (after-missing (characterIn (c .code) chs) (c .code) x (widened w spacing) (λ more. later (widened w spacing more)) (one ∙ z))
-          ∙ here
+          let d : found ≡ Absent = found-none found (c .code) x (widened w spacing) (one ∙ z) in
+          let a : Missing (c .code) ≡ r .measure = rw d at one in
+          let b : Missing (c .code) ≡ textWidth chs spacing (codes text) = rw d at here in
+          let k : n + 1 ≡ lookedUp chs (codes text) = rw d at here-count in
+          looked-is r (textWidth chs spacing (codes text)) (lookedUp chs (codes text)) (sym a ∙ b) (q .one ∙ k)
 
       -- the width is at most 65,790 for each byte
-      width-fits : (v : ℕ) → r ≡ Width v → v ≤ 65790 * (at + c .len)
+      width-fits : (v : ℕ) → r .measure ≡ Width v → v ≤ 65790 * (at + c .len)
       width-fits v z =
           let k : v ≤ w + 65790 = rw z at (q .grown) in
           omega (arith, k, so .small, len-is text at c e)
 
-      pub width-on : (v : ℕ) → r ≡ Width v → Measuring chs spacing text v (at + c .len)
+      pub width-on : (v : ℕ) → r .measure ≡ Width v → Measuring chs spacing text v (r .count) (at + c .len)
       width-on v z =
+          let d : Wide found (widened w spacing) v = found-some found (c .code) v (widened w spacing) (one ∙ z) in
+          let a : widthAfter chs spacing (widened w spacing (d .more)) later ≡ textWidth chs spacing (codes text) = rw (d .is) at here in
+          let b : n + suc (lookedUp chs later) ≡ lookedUp chs (codes text) = rw (d .is) at here-count in
           record {
             small = width-fits v z;
-            same = sym (after-width (characterIn (c .code) chs) (c .code) v (widened w spacing) later (one ∙ z)) ∙ here;
+            few = omega (arith, q .one, so .few, len-is text at c e);
+            same = rw (d .width) at a;
+            counted = omega (arith, q .one, b);
           }
 
-pub ruleset width-ways = (width-start, width-end, width-room, width-missing, width-on, code-less)
+pub ruleset width-ways = (width-start, width-end, width-room, count-room, width-missing, width-on, code-less)
 
 -- `text_width`: a short text is all of it
-pub width-all : (chs : List Character) (spacing : ℕ) (text : List ℕ) (r : Measure) → r ≡ textWidth chs spacing (codes text) → length text ≤ 65000
-    → r ≡ textWidth chs spacing (codes (take 65000 text))
+pub width-all : (chs : List Character) (spacing : ℕ) (text : List ℕ) (r : Looked) → r ≡ measureOf chs spacing (codes text) → length text ≤ 65000
+    → r ≡ measureOf chs spacing (codes (take 65000 text))
 width-all chs spacing text r e h = rw (take-all 65000 text h) e

@@ -1,11 +1,14 @@
--- Worked widths, by computation: a font of A, 5 wide, B, 0 wide, and C, 1 wide.
+-- Worked widths, and counts of characters looked up, by computation: a font of A, 5 wide, B, 0 wide, and C, 1 wide.
 use Prim.Native.Nat.{ℕ}
 use mathlib.Core.Path.{_≡_, refl}
 use mathlib.Core.List.{List, [], _∷_, map}
+use Rattle.utf8.specs.Utf8.{extra, codeOf, codesFrom, codes}
 use Rattle.sign.specs.Sign.{Character}
 use Rattle.font.specs.Character.{lookup, characterIn}
-use Rattle.font.specs.Measure.{widened, widthAfter, textWidth}
+use Rattle.font.specs.Measure.{widened, widthAfter, textWidth, lookedUp, measureOf}
+use Rattle.font.specs.declared.Measure.{Measure}
 use Rattle.font.specs.declared.Measure.the-variants.{Width, Missing}
+use Rattle.font.specs.declared.Looked.{Looked}
 
 abbrev ch : ℕ → ℕ → Character
 ch n w = record { number = n; width = w; bitmap = 0 }
@@ -27,3 +30,25 @@ narrow = refl
 gaps : map (textWidth letters 2) ((65 ∷ 68 ∷ 69 ∷ []) ∷ (65536 ∷ []) ∷ []) ≡ Missing 68 ∷ Missing 65536 ∷ []
 unfolding textWidth widthAfter widened characterIn lookup
 gaps = refl
+
+abbrev looks : ℕ → List ℕ → ℕ
+looks n l = lookedUp (ch n 2 ∷ letters) (codes l)
+
+-- A2, by the bytes of a text: nothing; A; AAB; é, two bytes and one character, and AéA
+each-once : map (looks 233) ([] ∷ (65 ∷ []) ∷ (65 ∷ 65 ∷ 66 ∷ []) ∷ (0xC3 ∷ 0xA9 ∷ []) ∷ (65 ∷ 0xC3 ∷ 0xA9 ∷ 65 ∷ []) ∷ []) ≡ 0 ∷ 1 ∷ 3 ∷ 1 ∷ 3 ∷ []
+unfolding lookedUp characterIn lookup codes codesFrom codeOf extra
+each-once = refl
+
+-- code 0 is looked up like any other; so is €, above 255
+other-codes : map (looks 8364) ((0 ∷ []) ∷ (65 ∷ 0 ∷ 65 ∷ []) ∷ (0xE2 ∷ 0x82 ∷ 0xAC ∷ 65 ∷ []) ∷ []) ≡ 1 ∷ 3 ∷ 2 ∷ []
+unfolding lookedUp characterIn lookup codes codesFrom codeOf extra
+other-codes = refl
+
+abbrev looked : Measure → ℕ → Looked
+looked m n = record { measure = m; count = n }
+
+-- the third letter of ABDEA is missing, and none after it is looked up; so is the first of DA
+up-to-missing : map (measureOf letters 2) ((65 ∷ 66 ∷ 68 ∷ 69 ∷ 65 ∷ []) ∷ (68 ∷ 65 ∷ []) ∷ (65 ∷ 65 ∷ []) ∷ [])
+    ≡ looked (Missing 68) 3 ∷ looked (Missing 68) 1 ∷ looked (Width 12) 2 ∷ []
+unfolding textWidth widthAfter widened lookedUp characterIn lookup
+up-to-missing = refl

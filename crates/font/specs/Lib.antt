@@ -3,4 +3,5 @@ pub mod Character
 pub mod Widths
 pub mod Measure
 pub mod Grown
+pub mod Counts
 pub mod Examples

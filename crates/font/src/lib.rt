@@ -11,7 +11,7 @@ ghost use Rattle.sign.specs.Sign.{charactersOf};
 ghost use Rattle.font.specs.Table.{entryNumbered};
 ghost use Rattle.font.specs.Character.{lookup, characterIn, charactersAt, charactersBy};
 ghost use Rattle.font.specs.Widths.{noted, Unfilled, StandsFor, Widths};
-ghost use Rattle.font.specs.Measure.{widened, textWidth};
+ghost use Rattle.font.specs.Measure.{widened, measureOf};
 ghost use Rattle.font.specs.Grown.{OneMore};
 
 // A character's width, and where its bitmap starts in the file.
@@ -44,6 +44,12 @@ pub enum FontFound {
 pub enum Measure {
     Width(u32),
     Missing(u32),
+}
+
+// A measure, and how many characters it looked up.
+pub struct Looked {
+    pub measure: Measure,
+    pub count: usize,
 }
 
 // The font with a number.
@@ -177,55 +183,65 @@ fn width_in(file: &[u8], entry: FontEntry, table: &[u16], code: u32) -> u16
     base::wide16(width) + 1
 }
 
-// A width with one character more, or that character's code if the font does not define it.
+// A width with one character more, or that character's code if the font does not define it; this looks it up once, and counts it.
 pub fn with_character(
     file: &[u8],
     entry: FontEntry,
     table: &[u16],
     width: u32,
+    count: usize,
     code: u32,
     spacing: u16,
-) -> Measure
+) -> Looked
     requires { ⌜ Widths (charactersAt (now file) entry) (now table) ⌝ }
-    requires { ⌜ width ≤ 65790 * 65000 ⌝ }
-    ensures { λ r. ⌜ OneMore (charactersAt (now (file .entry)) entry) spacing width code r ⌝ }
+    requires { ⌜ (width ≤ 65790 * 65000) × (count ≤ 65000) ⌝ }
+    ensures { λ r. ⌜ OneMore (charactersAt (now (file .entry)) entry) spacing width count code r ⌝ }
 {
     let more = width_in(file, entry, table, code);
+    let looked = count + 1;
     if more == 0 {
-        return Measure::Missing(code);
+        return Looked {
+            measure: Measure::Missing(code),
+            count: looked,
+        };
     }
-    Measure::Width(wider(width, spacing, more - 1))
+    Looked {
+        measure: Measure::Width(wider(width, spacing, more - 1)),
+        count: looked,
+    }
 }
 
-// The width of a short text.
-fn short_width(file: &[u8], entry: FontEntry, table: &[u16], text: &[u8], spacing: u16) -> Measure
+// The width of a short text, and how many characters were looked up.
+fn short_width(file: &[u8], entry: FontEntry, table: &[u16], text: &[u8], spacing: u16) -> Looked
     requires { ⌜ Widths (charactersAt (now file) entry) (now table) ⌝ }
     requires { ⌜ length (now text) ≤ 65000 ⌝ }
-    ensures { λ r. ⌜ r ≡ textWidth (charactersAt (now (file .entry)) entry) spacing (codes (now (text .entry))) ⌝ }
+    ensures { λ r. ⌜ r ≡ measureOf (charactersAt (now (file .entry)) entry) spacing (codes (now (text .entry))) ⌝ }
 {
     let mut w: u32 = 0;
+    let mut n: usize = 0;
     let mut at: usize = 0;
     while at < text.len() {
         let c = utf8::code_at(text, at);
-        let Measure::Width(v) = with_character(file, entry, table, w, c.code, spacing) else {
-            return Measure::Missing(c.code);
+        let r = with_character(file, entry, table, w, n, c.code, spacing);
+        let m = r.measure;
+        let Measure::Width(v) = m else {
+            return r;
         };
         w = v;
+        n = r.count;
         at += c.len;
     }
-    Measure::Width(w)
+    Looked {
+        measure: Measure::Width(w),
+        count: n,
+    }
 }
 
-// The width of a text, with a table of the font's widths: of its first 65,000 bytes, where it has more.
-pub fn text_width(
-    file: &[u8],
-    entry: FontEntry,
-    table: &[u16],
-    text: &[u8],
-    spacing: u16,
-) -> Measure
+// The width of a text, with a table of the font's widths, and how many characters were looked up: of its first 65,000 bytes,
+// where it has more.
+pub fn text_width(file: &[u8], entry: FontEntry, table: &[u16], text: &[u8], spacing: u16) -> Looked
     requires { ⌜ Widths (charactersAt (now file) entry) (now table) ⌝ }
-    ensures { λ r. ⌜ r ≡ textWidth (charactersAt (now (file .entry)) entry) spacing (codes (take 65000 (now (text .entry)))) ⌝ }
+    ensures { λ r. ⌜ r ≡ measureOf (charactersAt (now (file .entry)) entry) spacing (codes (take 65000 (now (text .entry)))) ⌝ }
 {
     if text.len() <= 65000 {
         return short_width(file, entry, table, text, spacing);

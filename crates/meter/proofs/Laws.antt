@@ -1,5 +1,5 @@
 -- A span in its font, by the code's ways.
-use Prim.Native.Nat.{ℕ, _+_, _-_, _≤_, _<_}
+use Prim.Native.Nat.{ℕ, suc, _+_, _-_, _≤_, _<_}
 use mathlib.Core.Path.{_≡_, refl, sym, _∙_, ap}
 use mathlib.Core.Option.{Option, none, some}
 use mathlib.Core.Bool.{Bool, true, false}
@@ -33,7 +33,9 @@ use Rattle.font.proofs.Tables.{table-holds, named-good}
 use Rattle.font.proofs.Laws.{entry-stands}
 use Rattle.font.specs.declared.Measure.{Measure}
 use Rattle.font.specs.declared.Measure.the-variants.{Width, Missing}
-use Rattle.font.specs.Measure.{widened, withWidth, widthAfter, textWidth}
+use Rattle.font.specs.declared.Looked.{Looked}
+use Rattle.font.proofs.Texts.{looked-is}
+use Rattle.font.specs.Measure.{widened, withWidth, widthAfter, textWidth, lookedOn, lookedUp, measureOf}
 use Rattle.font.specs.Grown.{OneMore}
 use Rattle.layout.specs.declared.Entry.{Entry}
 use Rattle.layout.specs.Types.{unwrapOr, Meter}
@@ -57,23 +59,33 @@ after-fits chs spacing w (c ∷ l) h = go (characterIn c chs) (λ v. after-fits 
     go (Is more b) k = k (widened w spacing more)
     go Absent k = h .0
 
-text-found : (chs : List Character) (spacing : ℕ) (l : List ℕ) (r : Measure) → CodesFit l → r ≡ textWidth chs spacing l → WidthFound chs spacing l r
+text-found : (chs : List Character) (spacing : ℕ) (l : List ℕ) (r : Looked) → CodesFit l → r ≡ measureOf chs spacing l → WidthFound chs spacing l r
 unfolding textWidth
 text-found chs spacing l r h e = record { is = e; fits = rw e (after-fits chs spacing 0 l h) }
 
--- a character alone
-pub hex-alone : (chs : List Character) (spacing code : ℕ) (r : Measure) → code < 65536 → OneMore chs spacing 0 code r
+-- a character alone is one that is looked up, found or not
+alone : (chs : List Character) (code : ℕ) → lookedUp chs (code ∷ []) ≡ 1
+unfolding lookedUp
+alone chs code = go (characterIn code chs)
+  where
+    go : (f : Found) → suc (lookedOn f 0) ≡ 1
+    go (Is more b) = refl
+    go Absent = refl
+
+pub hex-alone : (chs : List Character) (spacing code : ℕ) (r : Looked) → code < 65536 → OneMore chs spacing 0 0 code r
     → WidthFound chs spacing (code ∷ []) r
 unfolding textWidth
-hex-alone chs spacing code r h q = text-found chs spacing (code ∷ []) r (h, tt) (q .is)
+hex-alone chs spacing code r h q =
+    text-found chs spacing (code ∷ []) r (h, tt)
+    (looked-is r (textWidth chs spacing (code ∷ [])) (lookedUp chs (code ∷ [])) (q .is) (q .one ∙ sym (alone chs code)))
 
 part : (chs : List Character) (spacing : ℕ) (msg : List ℕ) (e : Entry) {n : ℕ} → n ≡ e .len
-    → textWidth chs spacing (codes (take n (drop (e .start) msg))) ≡ textWidth chs spacing (partCodes msg e)
+    → measureOf chs spacing (codes (take n (drop (e .start) msg))) ≡ measureOf chs spacing (partCodes msg e)
 unfolding partCodes
-part chs spacing msg e q = ap (λ (k : ℕ). textWidth chs spacing (codes (take k (drop (e .start) msg)))) q
+part chs spacing msg e q = ap (λ (k : ℕ). measureOf chs spacing (codes (take k (drop (e .start) msg)))) q
 
-pub part-text : (chs : List Character) (spacing : ℕ) (msg : List ℕ) (e : Entry) (r : Measure) → EntryIn msg e → e .kind ≡ 0
-    → r ≡ textWidth chs spacing (codes (take 65000 (take (e .start + e .len - e .start) (drop (e .start) msg))))
+pub part-text : (chs : List Character) (spacing : ℕ) (msg : List ℕ) (e : Entry) (r : Looked) → EntryIn msg e → e .kind ≡ 0
+    → r ≡ measureOf chs spacing (codes (take 65000 (take (e .start + e .len - e .start) (drop (e .start) msg))))
     → WidthFound chs spacing (partCodes msg e) r
 part-text chs spacing msg e r so k q = text-found chs spacing (partCodes msg e) r (so .codes-fit k) is
   where
@@ -83,29 +95,30 @@ part-text chs spacing msg e r so k q = text-found chs spacing (partCodes msg e) 
     all : take 65000 (take (e .start + e .len - e .start) (drop (e .start) msg)) ≡ take (e .start + e .len - e .start) (drop (e .start) msg)
     all = take-all 65000 (take (e .start + e .len - e .start) (drop (e .start) msg)) (simp length-take (omega (arith, so .inside, so .small)))
 
-    is : r ≡ textWidth chs spacing (partCodes msg e)
-    is = q ∙ ap (λ (l : List ℕ). textWidth chs spacing (codes l)) all ∙ part chs spacing msg e n
+    is : r ≡ measureOf chs spacing (partCodes msg e)
+    is = q ∙ ap (λ (l : List ℕ). measureOf chs spacing (codes l)) all ∙ part chs spacing msg e n
 
--- what a span prints, by its kind: r is its width
+-- what a span prints, by its kind: r is its measure
 module _ (chs : List Character) (spacing : ℕ) (msg : List ℕ) (e : Entry) where
   abbrev kinds : Bool → Bool → List ℕ
   kinds t u = pick t (codes (take (e .len) (drop (e .start) msg))) (pick u (e .code ∷ []) [])
 
-  found-by : (r : Measure) (l : List ℕ) → charsOf msg e ≡ l → WidthFound chs spacing l r → WidthFound chs spacing (charsOf msg e) r
-  found-by r l p q = record { is = q .is ∙ ap (textWidth chs spacing) (sym p); fits = q .fits }
+  found-by : (r : Looked) (l : List ℕ) → charsOf msg e ≡ l → WidthFound chs spacing l r → WidthFound chs spacing (charsOf msg e) r
+  found-by r l p q = record { is = q .is ∙ ap (measureOf chs spacing) (sym p); fits = q .fits }
 
-  pub span-text : (r : Measure) → e .kind ≡ 0 → WidthFound chs spacing (partCodes msg e) r → WidthFound chs spacing (charsOf msg e) r
+  pub span-text : (r : Looked) → e .kind ≡ 0 → WidthFound chs spacing (partCodes msg e) r → WidthFound chs spacing (charsOf msg e) r
   unfolding partCodes
   span-text r h q = found-by r (partCodes msg e) (ap (λ (t : Bool). kinds t (eqb (e .kind) 1)) (eq-eqb (e .kind) 0 h)) q
 
-  pub span-hex : (r : Measure) → (e .kind ≡ 0 → ⊥) → e .kind ≡ 1 → WidthFound chs spacing (e .code ∷ []) r → WidthFound chs spacing (charsOf msg e) r
+  pub span-hex : (r : Looked) → (e .kind ≡ 0 → ⊥) → e .kind ≡ 1 → WidthFound chs spacing (e .code ∷ []) r → WidthFound chs spacing (charsOf msg e) r
   span-hex r n h q =
       found-by r (e .code ∷ []) (ap (λ (t : Bool). kinds t (eqb (e .kind) 1)) (ne-eqb (e .kind) 0 n) ∙ ap (kinds false) (eq-eqb (e .kind) 1 h)) q
 
-  pub span-none : (e .kind ≡ 0 → ⊥) → (e .kind ≡ 1 → ⊥) → WidthFound chs spacing (charsOf msg e) (Width 0)
-  unfolding textWidth widthAfter
+  pub span-none : (e .kind ≡ 0 → ⊥) → (e .kind ≡ 1 → ⊥) → WidthFound chs spacing (charsOf msg e) (record { measure = Width 0; count = 0 })
+  unfolding textWidth widthAfter lookedUp
   span-none n h =
-      found-by (Width 0) [] (ap (λ (t : Bool). kinds t (eqb (e .kind) 1)) (ne-eqb (e .kind) 0 n) ∙ ap (kinds false) (ne-eqb (e .kind) 1 h))
+      found-by (record { measure = Width 0; count = 0 }) []
+      (ap (λ (t : Bool). kinds t (eqb (e .kind) 1)) (ne-eqb (e .kind) 0 n) ∙ ap (kinds false) (ne-eqb (e .kind) 1 h))
       (record { is = refl; fits = tt })
 
 -- ---- a span in a font
@@ -152,18 +165,18 @@ module _ (file msg : List ℕ) (e : Entry) (f : FontEntry) where
   abbrev spacingBy : ℕ → ℕ
   spacingBy = unwrapOr (e .state .«char_spacing»)
 
-  pub gauge-is : {d s h l w n : ℕ} {m : Measure} {x : Fault} → d ≡ f .«char_spacing» → s ≡ unwrapOr (e .state .«char_spacing») d
-      → WidthFound (charactersAt file f) s (charsOf msg e) m → n ≡ versionNumber (e .state .version) (f .«version_id») → x ≡ faultBy n m
-      → h ≡ f .height → l ≡ f .«line_spacing» → w ≡ widthOf m
+  pub gauge-is : {d s h l w n : ℕ} {m : Looked} {x : Fault} → d ≡ f .«char_spacing» → s ≡ unwrapOr (e .state .«char_spacing») d
+      → WidthFound (charactersAt file f) s (charsOf msg e) m → n ≡ versionNumber (e .state .version) (f .«version_id») → x ≡ faultBy n (m .measure)
+      → h ≡ f .height → l ≡ f .«line_spacing» → w ≡ widthOf (m .measure)
       → record { spacing = s; height = h; «font_spacing» = l; width = w; fault = x .number; detail = x .detail }
       ≡ gaugeFor msg e (some (fontAt file f))
   unfolding gaugeFor fontAt measureIn
   gauge-is {d} {s} {h} {l} {w} {n} {m} {x} p a b c y j k i =
       let z : s ≡ spacingBy (f .«char_spacing») = a ∙ ap spacingBy p in
-      let q : measureIn msg e (fontAt file f) ≡ m =
-      ap (λ (y : ℕ). textWidth (charactersAt file f) y (charsOf msg e)) (sym z) ∙ sym (b .is) in
+      let q : measureIn msg e (fontAt file f) ≡ m .measure =
+      ap (λ (y : ℕ). textWidth (charactersAt file f) y (charsOf msg e)) (sym z) ∙ ap (λ (y : Looked). y .measure) (sym (b .is)) in
       let r : x ≡ faultAs (faultIn msg e (some (fontAt file f))) =
-      y ∙ ap (λ (k : ℕ). faultBy k m) c ∙ fault-parts msg e (fontAt file f) (e .state .version) m q in
+      y ∙ ap (λ (k : ℕ). faultBy k (m .measure)) c ∙ fault-parts msg e (fontAt file f) (e .state .version) (m .measure) q in
       rw (z, j, k, i, r, ← q)
 
 gauge-none : (msg : List ℕ) (e : Entry) → gaugeFor msg e none ≡ gaugeFor [] e none

@@ -18,9 +18,10 @@ use Rattle.font.specs.declared.FontFound.the-variants.{Entry as EntryIs}
 use Rattle.font.specs.Character.{charactersAt}
 use Rattle.font.specs.Table.{entryNumbered}
 use Rattle.font.specs.Widths.{Widths}
-use Rattle.font.specs.Measure.{textWidth}
+use Rattle.font.specs.Measure.{measureOf}
 use Rattle.font.specs.declared.Measure.{Measure}
 use Rattle.font.specs.declared.Measure.the-variants.{Width, Missing}
+use Rattle.font.specs.declared.Looked.{Looked}
 use Rattle.layout.specs.declared.Entry.{Entry}
 use Rattle.layout.specs.Types.{Meter}
 use Rattle.layout.specs.Fonts.{faultIn, spacingIn, widthIn, heightIn, lineSpacingIn, meterOf}
@@ -58,10 +59,10 @@ CodeFits (Missing c) = c < 65536
 unfoldable pub partCodes : List ℕ → Entry → List ℕ
 partCodes msg e = codes (take (e .len) (drop (e .start) msg))
 
--- the width of these codes
-pub record WidthFound (chs : List Character) (spacing : ℕ) (l : List ℕ) (r : Measure) : Type 0 where
-  pub is : r ≡ textWidth chs spacing l
-  pub fits : CodeFits r
+-- the measure of these codes: their width, and how many were looked up
+pub record WidthFound (chs : List Character) (spacing : ℕ) (l : List ℕ) (r : Looked) : Type 0 where
+  pub is : r ≡ measureOf chs spacing l
+  pub fits : CodeFits (r .measure)
 
 -- an entry of a message: it lies inside, and the codes of a text fit
 pub record EntryIn (msg : List ℕ) (e : Entry) : Type 0 where

@@ -8,6 +8,7 @@ ghost use Rattle.layout.specs.Fonts.{charsOf, widthOf};
 ghost use Rattle.rows.specs.Measured.{flag as flagOf, gaugeOf, rowBy, rowOf};
 ghost use Rattle.meter.specs.Gauges.{AcceptedTable, WidthsOf, partCodes, EntryIn, CodeFits, WidthFound, meterIn, fontAt, versionNumber, faultBy, gaugeFor};
 use font::FontFound;
+use font::Looked;
 use font::Measure;
 use layout::Entry;
 use rows::Fault;
@@ -27,11 +28,11 @@ fn flag(o: OptNum) -> u16
 }
 
 // The width of a character alone.
-fn hex_width(file: &[u8], f: FontEntry, widths: &[u16], code: u16, spacing: u16) -> Measure
+fn hex_width(file: &[u8], f: FontEntry, widths: &[u16], code: u16, spacing: u16) -> Looked
     requires { ⌜ Widths (charactersAt (now file) f) (now widths) ⌝ }
     ensures { λ r. ⌜ WidthFound (charactersAt (now (file .entry)) f) spacing (code ∷ []) r ⌝ }
 {
-    font::with_character(file, f, widths, 0, code as u32, spacing)
+    font::with_character(file, f, widths, 0, 0, code as u32, spacing)
 }
 
 // The width of a text of the message.
@@ -42,7 +43,7 @@ fn part_width(
     msg: &[u8],
     e: Entry,
     spacing: u16,
-) -> Measure
+) -> Looked
     requires { ⌜ Widths (charactersAt (now file) f) (now widths) ⌝ }
     requires { ⌜ EntryIn (now msg) e × (e .kind ≡ 0) ⌝ }
     ensures { λ r. ⌜ WidthFound (charactersAt (now (file .entry)) f) spacing (partCodes (now (msg .entry)) e) r ⌝ }
@@ -60,7 +61,7 @@ fn span_width(
     msg: &[u8],
     e: Entry,
     spacing: u16,
-) -> Measure
+) -> Looked
     requires { ⌜ Widths (charactersAt (now file) f) (now widths) ⌝ }
     requires { ⌜ EntryIn (now msg) e ⌝ }
     ensures { λ r. ⌜ WidthFound (charactersAt (now (file .entry)) f) spacing (charsOf (now (msg .entry)) e) r ⌝ }
@@ -71,7 +72,10 @@ fn span_width(
     if e.kind == 1 {
         return hex_width(file, f, widths, e.code, spacing);
     }
-    Measure::Width(0)
+    Looked {
+        measure: Measure::Width(0),
+        count: 0,
+    }
 }
 
 // 11 where the version ids differ, else 0.
@@ -131,7 +135,8 @@ fn gauge_in(file: &[u8], f: FontEntry, widths: &[u16], msg: &[u8], e: Entry) -> 
     let char_spacing = st.char_spacing;
     let version = st.version;
     let spacing = layout::unwrap_or(char_spacing, base::wide16(f.char_spacing));
-    let m = span_width(file, f, widths, msg, e, spacing);
+    let looked = span_width(file, f, widths, msg, e, spacing);
+    let m = looked.measure;
     let fault = fault_by(version_number(version, f.version_id), m);
     Gauge {
         spacing,

@@ -1,5 +1,6 @@
 -- The promises hold.
 use Rattle.token.proofs.Laws.{slices-joined}
+use Rattle.font.proofs.Counts.{counts}
 use Rattle.admit.specs.Admission.{denied}
 use Rattle.layout.specs.Boards.{boards}
 use Rattle.layout.proofs.Checks.{answer-on}
@@ -19,4 +20,5 @@ promises =
       worked-boards = boards;
       sentences = sentenced;
       words = worded;
+      looked-up = counts;
     }

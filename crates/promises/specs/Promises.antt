@@ -1,10 +1,13 @@
 -- What is promised of the product, in one reading: each line is a theorem, for every sign file, every message and every lent slice. All of it speaks of
--- `listing` and `after`, which by the contract of `list` (crates/listing/src/lib.rt) are the answer of the call that runs and the slice that it leaves.
+-- `listing` and `after`, which by the contract of `list` (crates/listing/src/lib.rt) are the answer of the call that runs and the slice that it leaves;
+-- the lines of requests of document 02, A1 and on, of what they say.
 use Prim.Native.Nat.{ℕ, _<_}
 use mathlib.Core.Path.{_≡_}
 use mathlib.Core.List.{List}
 use Rattle.token.specs.Token.{joined, slices}
 use Rattle.refusal.specs.declared.Refusal.{Refusal}
+use Rattle.sign.specs.Sign.{Character}
+use Rattle.font.specs.Counts.{Counts}
 use Rattle.admit.specs.Admission.{denied, admission}
 use Rattle.layout.specs.declared.Span.{Span}
 use Rattle.layout.specs.declared.Answer.the-variants.{Refused}
@@ -36,3 +39,6 @@ pub record Promises : Type 0 where
   pub sentences : (r : Refusal) → r .number < 256 → r .start < 65536 → r .length < 65536 → r .detail < 65536 → Sentenced r
   -- A1: "at most 40 ASCII bytes of words, different for each number in use and "unknown" for others"
   pub words : Worded
+  -- A2, of a font's characters and the code points of a text or [hc]: the count of characters looked up is "equal to the text's code points unless it
+  -- refuses", and then that of those up to and with the missing one. By their contracts `text_width` and the measures of meter answer this count
+  pub looked-up : (chs : List Character) (spacing : ℕ) (l : List ℕ) → Counts chs spacing l

@@ -9,10 +9,10 @@ use Rattle.font.proofs.short_width.Statement.{statement}
 use Rattle.font.proofs.short_width.Tie as tie
 
 abbrev Inv-loop : tie.InvT-loop
-Inv-loop file entry table text spacing w₀ at₀ w at = Measuring (charactersAt file entry) spacing text w at
+Inv-loop file entry table text spacing w₀ n₀ at₀ w n at = Measuring (charactersAt file entry) spacing text w n at
 
 abbrev μ-loop : tie.MeasureT-loop
-μ-loop file entry table text spacing w₀ at₀ w at = length text - at
+μ-loop file entry table text spacing w₀ n₀ at₀ w n at = length text - at
 
 pub short-width-spec : {M : Type 1} → statement M
 short-width-spec =
