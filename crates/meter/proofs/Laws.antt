@@ -261,8 +261,8 @@ pub row-made : (m : Meter) (e : Entry) (g : Gauge) (r : Row) → g ≡ gaugeOf m
 row-made m e g r p q = q ∙ ap (rowBy e) p ∙ row-is m e
 
 -- the fields of a row: each is its own by a call
-abbrev made : Entry → Gauge → ℕ → ℕ → ℕ → ℕ → ℕ → ℕ → ℕ → ℕ → Row
-made e g jp jl f l n x d w =
+abbrev made : Entry → Gauge → ℕ → ℕ → ℕ → ℕ → ℕ → ℕ → Row
+made e g jp jl f x d w =
     record {
       kind = e .kind;
       start = e .start;
@@ -271,8 +271,8 @@ made e g jp jl f l n x d w =
       «just_page» = jp;
       «just_line» = jl;
       font = f;
-      line = l;
-      span = n;
+      line = e .state .line;
+      span = e .state .span;
       fixed = x;
       spacing = g .spacing;
       led = d;
@@ -284,10 +284,10 @@ made e g jp jl f l n x d w =
       width = g .width;
     }
 
-pub row-fields : (e : Entry) (g : Gauge) (jp jl f l n x d w : ℕ) → jp ≡ e .state .«just_page» → jl ≡ e .state .«just_line» → f ≡ e .state .font
-    → l ≡ e .state .line → n ≡ e .state .span → x ≡ flag (e .state .«char_spacing») → d ≡ flag (e .state .«line_spacing»)
-    → w ≡ unwrapOr (e .state .«line_spacing») 0 → made e g jp jl f l n x d w ≡ rowBy e g
-row-fields e g jp jl f l n x d w a b c h i j k m = rw (a, b, c, h, i, j, k, m)
+pub row-fields : (e : Entry) (g : Gauge) (jp jl f x d w : ℕ) → jp ≡ e .state .«just_page» → jl ≡ e .state .«just_line» → f ≡ e .state .font
+    → x ≡ flag (e .state .«char_spacing») → d ≡ flag (e .state .«line_spacing»)
+    → w ≡ unwrapOr (e .state .«line_spacing») 0 → made e g jp jl f x d w ≡ rowBy e g
+row-fields e g jp jl f x d w a b c j k m = rw (a, b, c, j, k, m)
 
 pub none-fields : (e : Entry) (s d : ℕ) → s ≡ unwrapOr (e .state .«char_spacing») 0 → d ≡ e .state .font
     → record { spacing = s; height = 0; «font_spacing» = 0; width = 0; fault = 10; detail = d } ≡ gaugeFor [] e none

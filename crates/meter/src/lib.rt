@@ -205,7 +205,7 @@ fn row_by(e: Entry, g: Gauge) -> Row
         just_line: base::wide16(st.just_line),
         font: base::wide16(st.font),
         line: st.line,
-        span: base::wide16(st.span),
+        span: st.span,
         fixed: flag(char_spacing),
         spacing: g.spacing,
         led: flag(line_spacing),

@@ -8,7 +8,7 @@ use native.Mathlib.Nat.{sub-zero, div-mul-le-self}
 use native.Mathlib.Omega.{arith}
 use lib.Dec.{leb, ltb, eqb}
 use lib.ListN.{length}
-use borrow.Author.Tests.{lt-ltb, le-ltb, le-leb, lt-leb, eq-eqb, ne-eqb}
+use borrow.Author.Tests.{lt-ltb, le-ltb, le-leb, lt-leb, ltb-true, ltb-false, eq-eqb, ne-eqb, eqb-true, eqb-false}
 use Rattle.base.specs.Pick.{pick}
 use Rattle.refusal.specs.declared.Refusal.{Refusal}
 use Rattle.records.specs.declared.Config.{Config}
@@ -20,19 +20,25 @@ use Rattle.layout.specs.Placing.{trunc, orElse, unless, firstFault, placeX}
 use Rattle.refusal.specs.declared.OptRefusal.{OptRefusal}
 use Rattle.refusal.specs.declared.OptRefusal.the-variants.{Some, None}
 use Rattle.page.specs.Scan.{faultIs}
+use Rattle.rows.specs.declared.Fault.{Fault}
 use Rattle.rows.specs.declared.Row.{Row}
 use Rattle.rows.specs.Rows.{cells, RowRoom, SpanRoom, rowAt, rowsOf, spansOf, putSpan, SpanPut}
 use Rattle.rows.specs.Measured.{faultOf}
-use Rattle.rows.proofs.Laws.{cells-next, cells-done, spans-put}
+use Rattle.rows.proofs.Laws.{cells-next, cells-done, spans-put, cell-ahead}
 use Rattle.sums.specs.declared.Sums.{Sums}
-use Rattle.sums.specs.Sums.{sameRow, joined, advanced, sums, noneYet, SumsOf}
+use Rattle.sums.specs.Sums.{sameRow, joined, advanced, sums, noneYet}
+use Rattle.sums.specs.Chain.{ChainedTo}
+use Rattle.sums.proofs.Groups.{same-self}
 use Rattle.lines.specs.declared.PageLines.{PageLines}
 use Rattle.lines.specs.declared.Heights.{Heights}
 use Rattle.lines.specs.Lines.{fontFaultFrom, PageHeights, footIn, heightsIn}
 use Rattle.lines.proofs.Offsets.{HeightsOf, foot-fits, heights-are}
+use Rattle.place.specs.declared.Across.{Across}
 use Rattle.place.specs.declared.Placed.{Placed}
 use Rattle.place.specs.declared.Placed.the-variants.{At, Refused}
-use Rattle.place.specs.Placed.{goesBackFrom, backRows, standsAt, recordBy, refusalOf, faultAt, baseWith, recordWith, faultWith, placedBy, placedWith, SpanAsked, aboveAt, belowAt, recordAt, spanFaultAt, rowsFault, rowsRecords, Placeable, LinesMade, RowByRow, PassPlaced}
+use Rattle.place.specs.Placed.{goesBackFrom, backRows, standsAt, recordBy, refusalOf, faultAt, baseWith, recordWith, faultWith, placedBy, placedWith, acrossFault, acrossAt, Crossed, SpanAsked, SpanPlaced, aboveAt, belowAt, recordAt, spanFaultAt, rowsFault, rowsRecords, Placeable, LinesMade, RowByRow, PassPlaced}
+use Rattle.place.specs.Groups.{markAt, Marked, Ready, PlacedAcross, DownAsked, PlacedDown, stoppedAt}
+use Rattle.place.proofs.Groups.{marked-as}
 
 -- ---- `goes_back`
 
@@ -119,14 +125,6 @@ module _ (a b c d e : Option Refusal) (s : Span) (f : Refusal) where
   answer : Placed
   answer = placedBy (orElse a (orElse b (orElse c (orElse d e)))) s
 
-  way1 : a ≡ some f → Refused f ≡ answer
-  unfolding answer orElse
-  way1 h = rw h
-
-  way2 : a ≡ none → b ≡ some f → Refused f ≡ answer
-  unfolding answer orElse
-  way2 h i = rw (h, i)
-
   way3 : a ≡ none → b ≡ none → c ≡ some f → Refused f ≡ answer
   unfolding answer orElse
   way3 h i j = rw (h, i, j)
@@ -158,17 +156,36 @@ exceeds : (x y : ℕ) (f : Refusal) → y < x → unless (leb x y) f ≡ some f
 unfolding unless
 exceeds x y f h = rw (lt-leb x y h)
 
+-- a group that is refused across
+module _ (c : Config) (q : Rect) (r : Row) (o : Sums) where
+  first-of-all : (a b : Option Refusal) (f : Refusal) → a ≡ some f → orElse a b ≡ some f
+  unfolding orElse
+  first-of-all a b f h = rw h
+
+  second : (a b d : Option Refusal) (f : Refusal) → a ≡ none → b ≡ some f → orElse a (orElse b d) ≡ some f
+  unfolding orElse
+  second a b d f h k = rw (h, k)
+
+  pub across-stops : (f : Fault) → f ≡ acrossFault q o → (f .number ≡ 0 → ⊥) → (a b : ℕ) (d : Option (ℕ × ℕ))
+      → faultWith c q r o a b d ≡ some (refusalOf r (f .number) (f .detail))
+  unfolding faultWith
+  across-stops f e h a b d = step (eqb (o .fault) 0) (ltb (q .width) (o .before + o .after)) refl refl e
+    where
+      step : (t u : Bool) → eqb (o .fault) 0 ≡ t → ltb (q .width) (o .before + o .after) ≡ u
+          → f ≡ pick t (pick u (record { number = 13; detail = 0 }) (record { number = 0; detail = 0 })) (record { number = o .fault; detail = o .detail })
+          → orElse (faultAt r (faultOf (o .fault) (o .detail))) (orElse (unless (leb (o .before + o .after) (q .width)) (refusalOf r 13 0))
+          (orElse (faultAt r d) (orElse (unless (leb (a + b) (q .height)) (refusalOf r 13 0)) (unless (leb (r .height) (baseWith c q r o a b)) (refusalOf r 14 0)))))
+          ≡ some (refusalOf r (f .number) (f .detail))
+      step true true k l g =
+          rw g
+          (second _ _ _ (refusalOf r 13 0) (fault-none r (o .fault) (o .detail) (eqb-true (o .fault) 0 k))
+          (exceeds (o .before + o .after) (q .width) (refusalOf r 13 0) (ltb-true (q .width) (o .before + o .after) l)))
+      step true false k l g = absurd (h (ap (λ (x : Fault). x .number) g))
+      step false u k l g = rw g (first-of-all _ _ (refusalOf r (o .fault) (o .detail)) (fault-some r (o .fault) (o .detail) (eqb-false (o .fault) 0 k)))
+
 -- v are the heights of the row's line
 module _ (c : Config) (q : Rect) (r : Row) (o : Sums) (v : Heights) (p : Placed) where
-  pub group-faulty : (o .fault ≡ 0 → ⊥) → p ≡ Refused (refusalOf r (o .fault) (o .detail)) → p ≡ placedWith c q r o v
-  unfolding placedWith faultWith answer
-  group-faulty h e = e ∙ way1 _ _ _ _ _ _ _ (fault-some r (o .fault) (o .detail) h)
-
   module _ (g : o .fault ≡ 0) where
-    pub too-wide : q .width < o .before + o .after → p ≡ Refused (refusalOf r 13 0) → p ≡ placedWith c q r o v
-    unfolding placedWith faultWith answer
-    too-wide h e = e ∙ way2 _ _ _ _ _ _ _ (fault-none r (o .fault) (o .detail) g) (exceeds (o .before + o .after) (q .width) (refusalOf r 13 0) h)
-
     module _ (w : o .before + o .after ≤ q .width) where
       a-none : faultAt r (faultOf (o .fault) (o .detail)) ≡ none
       a-none = fault-none r (o .fault) (o .detail) g
@@ -205,7 +222,7 @@ module _ (c : Config) (q : Rect) (r : Row) (o : Sums) (v : Heights) (p : Placed)
           unfolding placedWith faultWith answer base
           too-low h e = e ∙ way5 _ _ _ _ _ _ _ a-none b-none c-none d-none (exceeds (r .height) base (refusalOf r 14 0) (omega (arith, base-is)))
 
-          pub placed : r .height ≤ t → {x : ℕ} → x ≡ standsAt (r .«just_line») (c .«char_width») (q .left) (q .width) (o .before) (o .after)
+          pub placed : r .height ≤ t → {x : ℕ} → x ≡ acrossAt c q r (o .before) (o .after)
               → {s : Span} → s ≡ recordBy q r x (t - r .height) → p ≡ At s → p ≡ placedWith c q r o v
           unfolding placedWith faultWith recordWith answer base
           placed h ex es ep =
@@ -233,9 +250,6 @@ after-keeps : (r : Row) (o : Sums) (es : List Row) → o .after ≤ sums r o es 
 after-keeps r o [] = omega arith
 after-keeps r o (e ∷ es) = omega (arith, after-grows r o e, after-keeps r (advanced r o e) es)
 
-same-self : (r : Row) → sameRow r r ≡ true
-same-self r = rw (eq-eqb (r .«just_page») (r .«just_page») refl, eq-eqb (r .line) (r .line) refl, eq-eqb (r .«just_line») (r .«just_line») refl)
-
 own-width : (r : Row) (o : Sums) → r .width ≤ advanced r o r .after
 unfolding advanced
 own-width r o = rw (same-self r) (rw (le-ltb (r .span) (r .span) (omega arith)) (omega arith))
@@ -253,7 +267,7 @@ pub width-part : (l : List ℕ) (n i : ℕ) (r : Row) (o : Sums) → i < n → r
 unfolding rowsOf
 width-part l n i r o h e f = rw f (width-in l r noneYet 0 i n (e ∙ ap (rowAt l) (let z : i ≡ 0 + i = omega arith in z)) h)
 
--- ---- `place_rows`
+-- ---- `place_down`
 
 refused-is : (f : Refusal) (w : Option Refusal) (s : Span) → Refused f ≡ placedBy w s → some f ≡ w
 refused-is f none s e = absurd (let z : _≡_ {A = ℕ} 0 1 = cc in omega arith)
@@ -266,10 +280,6 @@ at-is a (some g) s e = absurd (let z : _≡_ {A = ℕ} 0 1 = cc in omega arith)
 pub not-none : {A : Type 0} (f : Refusal) → Some f ≡ None → A
 not-none f e = absurd (let z : _≡_ {A = ℕ} 0 1 = cc in omega arith)
 
-all-cells : (rows : List ℕ) (n : ℕ) → cells (rowAt rows) 0 (n - 0) ≡ rowsOf rows n
-unfolding rowsOf
-all-cells rows n = rw (sub-zero n)
-
 none-first : (a b : Option Refusal) → a ≡ none → orElse a b ≡ b
 unfolding orElse
 none-first a b e = rw e
@@ -278,13 +288,16 @@ some-first : (f : Refusal) (a b : Option Refusal) → some f ≡ a → some f �
 unfolding orElse
 some-first f a b e = rw (← e)
 
--- the first i rows are placed, and the lines of page stand in the table
-pub record Placing (c : Config) (q : Rect) (rows : List ℕ) (n : ℕ) (out₀ : List ℕ) (at : ℕ) (out table : List ℕ) (page : PageLines) (i : ℕ) : Type 0 where
+-- the first i of m rows are placed, the others placed across, and the lines of page stand in the table
+pub record Placing (c : Config) (q : Rect) (rows : List ℕ) (n : ℕ) (out₀ : List ℕ) (at m : ℕ) (out table : List ℕ) (page : PageLines) (i : ℕ) : Type 0 where
   pub asked : Placeable q rows n out at
-  pub within : i ≤ n
+  pub few : m ≤ n
+  pub within : i ≤ m
   pub lines : PageHeights (c .«char_height») rows n (page .just) table page
-  pub faults : firstFault (spanFaultAt c q (rowsOf rows n)) (cells (rowAt rows) i (n - i)) ≡ firstFault (spanFaultAt c q (rowsOf rows n)) (rowsOf rows n)
-  pub records : spansOf out (at + i) ++ map (recordAt c q (rowsOf rows n)) (cells (rowAt rows) i (n - i)) ≡ spansOf out₀ at ++ rowsRecords c q (rowsOf rows n)
+  pub faults : firstFault (spanFaultAt c q (rowsOf rows n)) (cells (rowAt rows) i (m - i)) ≡ firstFault (spanFaultAt c q (rowsOf rows n)) (cells (rowAt rows) 0 m)
+  pub records : spansOf out (at + i) ++ map (recordAt c q (rowsOf rows n)) (cells (rowAt rows) i (m - i))
+      ≡ spansOf out₀ at ++ map (recordAt c q (rowsOf rows n)) (cells (rowAt rows) 0 m)
+  pub marked : (j : ℕ) → i ≤ j → j < m → Marked c q rows n out at j
   pub room : length out ≡ length out₀
 
 -- the lines kept are those of their own justification
@@ -292,104 +305,242 @@ own-lines : {ch : ℕ} {rows : List ℕ} {n just : ℕ} {table : List ℕ} {page
     → PageHeights ch rows n (page .just) table page
 own-lines {ch} {rows} {n} {just} {table} {page} h = subst (λ (j : ℕ). PageHeights ch rows n j table page) (sym (h .page)) h
 
-pub placing-start : {c : Config} {q : Rect} {rows : List ℕ} {n : ℕ} {out : List ℕ} {at just : ℕ} {table : List ℕ} {page : PageLines} → Placeable q rows n out at
-    → PageHeights (c .«char_height») rows n just table page → Placing c q rows n out at out table page 0
-unfolding rowsRecords
-placing-start {c} {q} {rows} {n} {out} {at} a h =
+pub placing-start : {c : Config} {q : Rect} {rows : List ℕ} {n : ℕ} {out : List ℕ} {at m just : ℕ} {table : List ℕ} {page : PageLines}
+    → DownAsked c q rows n out at m → PageHeights (c .«char_height») rows n just table page → Placing c q rows n out at m out table page 0
+placing-start {c} {q} {rows} {n} {out} {at} {m} a h =
     record {
-      asked = a;
+      asked = a .asked;
+      few = a .few;
       within = omega arith;
       lines = own-lines h;
-      faults = ap (firstFault (spanFaultAt c q (rowsOf rows n))) (all-cells rows n);
-      records = rw (all-cells rows n, (let e : at + 0 ≡ at = omega arith in e));
+      faults = ap (λ (k : ℕ). firstFault (spanFaultAt c q (rowsOf rows n)) (cells (rowAt rows) 0 k)) (sub-zero m);
+      records = rw (sub-zero m, (let e : at + 0 ≡ at = omega arith in e));
+      marked = λ j p k. a .marked j k;
       room = refl;
     }
 
-module _ {c : Config} {q : Rect} {rows : List ℕ} {n : ℕ} {out₀ : List ℕ} {at : ℕ} {out table : List ℕ} {page : PageLines} {i : ℕ}
-    (z : Placing c q rows n out₀ at out table page i) where
+module _ {c : Config} {q : Rect} {rows : List ℕ} {n : ℕ} {out₀ : List ℕ} {at m : ℕ} {out table : List ℕ} {page : PageLines} {i : ℕ}
+    (z : Placing c q rows n out₀ at m out table page i) where
   pub lines-made : LinesMade (c .«char_height») rows n table page
   lines-made = record { few = omega (arith, z .asked .few); rowed = z .asked .rowed; lines = z .lines }
 
-  pub placing-end : n ≤ i → RowByRow c q rows n out₀ at out None
+  pub placing-end : m ≤ i → PlacedDown c q rows n out₀ at m out None
   placing-end h =
-      let x : at + n ≡ at + i = omega (arith, z .within) in
+      let x : at + m ≡ at + i = omega (arith, z .within) in
       record {
-        fault = rw (cells-done (rowAt rows) i n h) at (z .faults);
+        fault = rw (cells-done (rowAt rows) i m h) at (z .faults);
         written = λ _.
             ap (spansOf out) x ∙ sym (append-nil (spansOf out (at + i)))
-            ∙ ap (λ (l : List Row). spansOf out (at + i) ++ map (recordAt c q (rowsOf rows n)) l) (sym (cells-done (rowAt rows) i n h)) ∙ z .records;
+            ∙ ap (λ (l : List Row). spansOf out (at + i) ++ map (recordAt c q (rowsOf rows n)) l) (sym (cells-done (rowAt rows) i m h)) ∙ z .records;
         room = z .room;
       }
 
-  -- r is the row read, o its sums and v its heights; the lines of page′ are its own
-  module _ (more : i < n) {r : Row} (e : r ≡ rowAt rows i) {o : Sums} (so : SumsOf rows n r o) {table′ : List ℕ} {page′ : PageLines}
-      (h : PageHeights (c .«char_height») rows n (r .«just_page») table′ page′) {v : Heights} (ev : v ≡ heightsIn page′ table′ (r .line)) where
-    tall : HeightsOf (c .«char_height») rows n (r .«just_page») (r .line) v
-    tall = heights-are h (r .line) ev
+  module _ (more : i < m) {w : ℕ} (ew : w ≡ markAt out at i) where
+    pub mark-some : 0 < w
+    mark-some = rw ew (z .marked i (omega arith) more .some)
 
-    pub span-asks : SpanAsked q r o v
-    span-asks =
+    -- r is the row read, w its mark and v its heights; the lines of page′ are its own
+    module _ {r : Row} (e : r ≡ rowAt rows i) {table′ : List ℕ} {page′ : PageLines} (h : PageHeights (c .«char_height») rows n (r .«just_page») table′ page′)
+        {v : Heights} (ev : v ≡ heightsIn page′ table′ (r .line)) where
+      tall : HeightsOf (c .«char_height») rows n (r .«just_page») (r .line) v
+      tall = heights-are h (r .line) ev
+
+      own : Sums
+      own = sums r noneYet (rowsOf rows n)
+
+      crossed : Crossed c q r own (w - 1)
+      unfolding own
+      crossed = rw (ew, e) (z .marked i (omega arith) more .is)
+
+      pub span-asks : SpanAsked q r v
+      unfolding own
+      span-asks =
+          record {
+            across = z .asked .across;
+            down = z .asked .down;
+            part = omega (arith, width-part rows n i r own (omega (arith, z .few)) e refl, crossed .wide);
+            high = tall .small;
+          }
+
+      ahead : cells (rowAt rows) i (m - i) ≡ r ∷ cells (rowAt rows) (i + 1) (m - (i + 1))
+      ahead = cells-next (rowAt rows) i m more ∙ ap (λ (x : Row). x ∷ cells (rowAt rows) (i + 1) (m - (i + 1))) (sym e)
+
+      -- p is the answer of `place_span`
+      module _ {p : Placed} (ep : SpanPlaced c q r (w - 1) v p) where
+        answered : p ≡ placedBy (spanFaultAt c q (rowsOf rows n) r) (recordAt c q (rowsOf rows n) r)
+        unfolding placedWith spanFaultAt recordAt aboveAt belowAt own
+        answered = rw (← tall .over, ← tall .under, ← tall .font) (ep own crossed)
+
+        later : Option Refusal
+        later = firstFault (spanFaultAt c q (rowsOf rows n)) (cells (rowAt rows) (i + 1) (m - (i + 1)))
+
+        here : firstFault (spanFaultAt c q (rowsOf rows n)) (cells (rowAt rows) i (m - i)) ≡ orElse (spanFaultAt c q (rowsOf rows n) r) later
+        unfolding later
+        here = ap (firstFault (spanFaultAt c q (rowsOf rows n))) ahead
+
+        pub placing-stop : {f : Refusal} → p ≡ Refused f → PlacedDown c q rows n out₀ at m out (Some f)
+        placing-stop {f} k =
+            record {
+              fault =
+                  some-first f (spanFaultAt c q (rowsOf rows n) r) later (refused-is f _ (recordAt c q (rowsOf rows n) r) (sym k ∙ answered))
+                  ∙ sym here ∙ z .faults;
+              written = not-none f;
+              room = z .room;
+            }
+
+        pub placing-on : {s : Span} → p ≡ At s → {out′ : List ℕ} → SpanPut out (at + i) s out′ → Placing c q rows n out₀ at m out′ table′ page′ (i + 1)
+        unfolding later
+        placing-on {s} k {out′} u =
+            let fit : (spanFaultAt c q (rowsOf rows n) r ≡ none) × (s ≡ recordAt c q (rowsOf rows n) r) =
+            at-is s (spanFaultAt c q (rowsOf rows n) r) (recordAt c q (rowsOf rows n) r) (sym k ∙ answered) in
+            let rest : List Span = map (recordAt c q (rowsOf rows n)) (cells (rowAt rows) (i + 1) (m - (i + 1))) in
+            let x : at + (i + 1) ≡ at + i + 1 = omega arith in
+            let y : spansOf out′ (at + (i + 1)) ≡ spansOf out (at + i) ++ (s ∷ []) =
+            ap (spansOf out′) x ∙ ap (λ (l : List ℕ). spansOf l (at + i + 1)) (u .put) ∙ spans-put out (at + i) s (omega (arith, z .asked .room, z .few)) in
+            record {
+              asked =
+                  record {
+                    few = z .asked .few;
+                    rowed = z .asked .rowed;
+                    room = omega (arith, z .asked .room, u .room);
+                    across = z .asked .across;
+                    down = z .asked .down;
+                  };
+              few = z .few;
+              within = omega arith;
+              lines = own-lines h;
+              faults = sym (none-first (spanFaultAt c q (rowsOf rows n) r) later (fit .0)) ∙ sym here ∙ z .faults;
+              records =
+                  ap (λ (l : List Span). l ++ rest) y ∙ append-assoc (spansOf out (at + i)) (s ∷ []) rest
+                  ∙ ap (λ (t : Span). spansOf out (at + i) ++ (t ∷ rest)) (fit .1)
+                  ∙ ap (λ (l : List Row). spansOf out (at + i) ++ map (recordAt c q (rowsOf rows n)) l) (sym ahead) ∙ z .records;
+              marked = λ j d g. marked-as (sym (cell-ahead u (at + j) 1 (omega arith))) (z .marked j (omega arith) g);
+              room = u .room ∙ z .room;
+            }
+
+-- ---- `place_rows`
+
+cells-split : {A : Type 0} (f : ℕ → A) (i k j : ℕ) → cells f i (k + j) ≡ cells f i k ++ cells f (i + k) j
+cells-split f i zero j = let a : 0 + j ≡ j = omega arith in let b : i + 0 ≡ i = omega arith in rw (a, b)
+cells-split {A} f i (suc k) j =
+    let a : suc k + j ≡ suc (k + j) = omega arith in
+    let b : suc i + k ≡ i + suc k = omega arith in
+    ap (cells f i) a ∙ ap (λ (l : List A). f i ∷ l) (cells-split f (suc i) k j ∙ ap (λ (x : ℕ). cells f (suc i) k ++ cells f x j) b)
+
+else-assoc : (a b d : Option Refusal) → orElse (orElse a b) d ≡ orElse a (orElse b d)
+unfolding orElse
+else-assoc none b d = refl
+else-assoc (some y) b d = refl
+
+faults-split : (f : Row → Option Refusal) (xs ys : List Row) → firstFault f (xs ++ ys) ≡ orElse (firstFault f xs) (firstFault f ys)
+unfolding orElse
+faults-split f [] ys = refl
+faults-split f (x ∷ xs) ys = ap (orElse (f x)) (faults-split f xs ys) ∙ sym (else-assoc (f x) (firstFault f xs) (firstFault f ys))
+
+pub rows-ready : {c : Config} {q : Rect} {rows : List ℕ} {n : ℕ} {out : List ℕ} {at : ℕ} {heads out₁ : List ℕ} → Placeable q rows n out at
+    → ChainedTo rows n out at heads out₁ → Ready c q rows n out₁ at heads
+rows-ready {n = n} {at = at} {out₁ = out₁} a h =
+    record {
+      chained = h .chained;
+      across = a .across;
+      told = λ j p k.
+          let e : n - suc (n - suc j) ≡ j = omega arith in
+          absurd (let b : markAt out₁ at (n - suc (n - suc j)) ≡ 0 = h .blank (n - suc j) (omega arith) in let d : markAt out₁ at j ≡ 0 = rw e at b in omega arith);
+    }
+
+module _ {c : Config} {q : Rect} {rows : List ℕ} {n : ℕ} {out : List ℕ} {at : ℕ} (asked : Placeable q rows n out at) {heads out₁ : List ℕ}
+    (h : ChainedTo rows n out at heads out₁) {out₂ : List ℕ} {a : Across} (x : PlacedAcross c q rows n out₁ at out₂ a) where
+  pub down-asks : DownAsked c q rows n out₂ at (a .count)
+  down-asks =
+      record {
+        asked =
+            record {
+              few = asked .few;
+              rowed = asked .rowed;
+              room = omega (arith, asked .room, h .same, x .same);
+              across = asked .across;
+              down = asked .down;
+            };
+        few = x .few;
+        marked = x .marked;
+      }
+
+  module _ {out₃ : List ℕ} {d : OptRefusal} (y : PlacedDown c q rows n out₂ at (a .count) out₃ d) where
+    same : length out₃ ≡ length out
+    same = y .room ∙ x .same ∙ h .same
+
+    fault : Row → Option Refusal
+    fault = spanFaultAt c q (rowsOf rows n)
+
+    split : firstFault fault (rowsOf rows n)
+        ≡ orElse (firstFault fault (cells (rowAt rows) 0 (a .count))) (firstFault fault (cells (rowAt rows) (a .count) (n - a .count)))
+    unfolding rowsOf
+    split =
+        let e : n ≡ a .count + (n - a .count) = omega (arith, x .few) in
+        let z : 0 + a .count ≡ a .count = omega arith in
+        ap (λ (k : ℕ). firstFault fault (cells (rowAt rows) 0 k)) e
+        ∙ ap (firstFault fault) (cells-split (rowAt rows) 0 (a .count) (n - a .count))
+        ∙ faults-split fault (cells (rowAt rows) 0 (a .count)) (cells (rowAt rows) (0 + a .count) (n - a .count))
+        ∙ ap (λ (k : ℕ). orElse (firstFault fault (cells (rowAt rows) 0 (a .count))) (firstFault fault (cells (rowAt rows) k (n - a .count)))) z
+
+    pub rows-refused : {f : Refusal} → d ≡ Some f → RowByRow c q rows n out at out₃ (Some f)
+    unfolding fault
+    rows-refused {f} k =
         record {
-          across = z .asked .across;
-          down = z .asked .down;
-          sums = so .most;
-          part = width-part rows n i r o more e (so .is);
-          high = tall .small;
+          fault = some-first f (firstFault fault (cells (rowAt rows) 0 (a .count))) _ (ap faultIs (sym k) ∙ y .fault) ∙ sym split;
+          written = not-none f;
+          room = same;
         }
 
-    ahead : cells (rowAt rows) i (n - i) ≡ r ∷ cells (rowAt rows) (i + 1) (n - (i + 1))
-    ahead = cells-next (rowAt rows) i n more ∙ ap (λ (x : Row). x ∷ cells (rowAt rows) (i + 1) (n - (i + 1))) (sym e)
+    none-there : d ≡ None → firstFault fault (cells (rowAt rows) 0 (a .count)) ≡ none
+    unfolding fault
+    none-there k = sym (y .fault) ∙ ap faultIs k
 
-    -- p is the answer of `place_span`
-    module _ {p : Placed} (ep : p ≡ placedWith c q r o v) where
-      answered : p ≡ placedBy (spanFaultAt c q (rowsOf rows n) r) (recordAt c q (rowsOf rows n) r)
-      unfolding placedWith spanFaultAt recordAt aboveAt belowAt
-      answered = rw (← so .is, ← tall .over, ← tall .under, ← tall .font) ep
+    stops-there : a .count < n → fault (rowAt rows (a .count)) ≡ some (refusalOf (rowAt rows (a .count)) (a .number) (a .detail))
+    unfolding fault spanFaultAt
+    stops-there k =
+        across-stops c q (rowAt rows (a .count)) (sums (rowAt rows (a .count)) noneYet (rowsOf rows n)) (record { number = a .number; detail = a .detail })
+        (x .stop k .1) (x .stop k .0) _ _ _
 
-      later : Option Refusal
-      later = firstFault (spanFaultAt c q (rowsOf rows n)) (cells (rowAt rows) (i + 1) (n - (i + 1)))
+    stop-fault : a .count < n → firstFault fault (cells (rowAt rows) (a .count) (n - a .count)) ≡ some (refusalOf (rowAt rows (a .count)) (a .number) (a .detail))
+    stop-fault k =
+        ap (firstFault fault) (cells-next (rowAt rows) (a .count) n k) ∙ sym (some-first _ (fault (rowAt rows (a .count))) _ (sym (stops-there k)))
 
-      here : firstFault (spanFaultAt c q (rowsOf rows n)) (cells (rowAt rows) i (n - i)) ≡ orElse (spanFaultAt c q (rowsOf rows n) r) later
-      unfolding later
-      here = ap (firstFault (spanFaultAt c q (rowsOf rows n))) ahead
+    stop-here : d ≡ None → a .count < n → RowByRow c q rows n out at out₃ (Some (refusalOf (rowAt rows (a .count)) (a .number) (a .detail)))
+    unfolding fault
+    stop-here k g =
+        record {
+          fault = sym (stop-fault g) ∙ sym (none-first _ (firstFault fault (cells (rowAt rows) (a .count) (n - a .count))) (none-there k)) ∙ sym split;
+          written = not-none (refusalOf (rowAt rows (a .count)) (a .number) (a .detail));
+          room = same;
+        }
 
-      pub placing-stop : {f : Refusal} → p ≡ Refused f → RowByRow c q rows n out₀ at out (Some f)
-      placing-stop {f} k =
-          record {
-            fault =
-                some-first f (spanFaultAt c q (rowsOf rows n) r) later (refused-is f _ (recordAt c q (rowsOf rows n) r) (sym k ∙ answered))
-                ∙ sym here ∙ z .faults;
-            written = not-none f;
-            room = z .room;
-          }
+    all-here : d ≡ None → n ≤ a .count → RowByRow c q rows n out at out₃ None
+    unfolding fault rowsOf rowsRecords
+    all-here k g =
+        let m : a .count ≡ n = omega (arith, x .few) in
+        record {
+          fault = rw m at (sym (none-there k));
+          written = λ _. (rw m at (y .written k)) ∙ ap (λ (l : List Span). l ++ rowsRecords c q (rowsOf rows n)) (x .spans ∙ h .spans);
+          room = same;
+        }
 
-      pub placing-on : {s : Span} → p ≡ At s → {out′ : List ℕ} → SpanPut out (at + i) s out′ → Placing c q rows n out₀ at out′ table′ page′ (i + 1)
-      unfolding later
-      placing-on {s} k {out′} w =
-          let fit : (spanFaultAt c q (rowsOf rows n) r ≡ none) × (s ≡ recordAt c q (rowsOf rows n) r) =
-          at-is s (spanFaultAt c q (rowsOf rows n) r) (recordAt c q (rowsOf rows n) r) (sym k ∙ answered) in
-          let rest : List Span = map (recordAt c q (rowsOf rows n)) (cells (rowAt rows) (i + 1) (n - (i + 1))) in
-          let x : at + (i + 1) ≡ at + i + 1 = omega arith in
-          let y : spansOf out′ (at + (i + 1)) ≡ spansOf out (at + i) ++ (s ∷ []) =
-          ap (spansOf out′) x ∙ ap (λ (l : List ℕ). spansOf l (at + i + 1)) (w .put) ∙ spans-put out (at + i) s (omega (arith, z .asked .room)) in
-          record {
-            asked =
-                record {
-                  few = z .asked .few;
-                  rowed = z .asked .rowed;
-                  room = omega (arith, z .asked .room, w .room);
-                  across = z .asked .across;
-                  down = z .asked .down;
-                };
-            within = omega arith;
-            lines = own-lines h;
-            faults = sym (none-first (spanFaultAt c q (rowsOf rows n) r) later (fit .0)) ∙ sym here ∙ z .faults;
-            records =
-                ap (λ (l : List Span). l ++ rest) y ∙ append-assoc (spansOf out (at + i)) (s ∷ []) rest
-                ∙ ap (λ (t : Span). spansOf out (at + i) ++ (t ∷ rest)) (fit .1)
-                ∙ ap (λ (l : List Row). spansOf out (at + i) ++ map (recordAt c q (rowsOf rows n)) l) (sym ahead) ∙ z .records;
-            room = w .room ∙ z .room;
-          }
+    pub rows-done : d ≡ None → {r : OptRefusal} → r ≡ stoppedAt rows n a → RowByRow c q rows n out at out₃ r
+    rows-done k {r} e = step (ltb (a .count) n) refl
+      where
+        step : (t : Bool) → ltb (a .count) n ≡ t → RowByRow c q rows n out at out₃ r
+        step true l = rw (e, l) (stop-here k (ltb-true (a .count) n l))
+        step false l = rw (e, l) (all-here k (ltb-false (a .count) n l))
+
+-- ---- `stopped`
+
+module _ (rows : List ℕ) (n : ℕ) (a : Across) where
+  pub stopped-some : a .count < n → {r : Row} → r ≡ rowAt rows (a .count)
+      → Some (record { number = a .number; start = r .start; length = r .len; detail = a .detail }) ≡ stoppedAt rows n a
+  stopped-some h e = rw (lt-ltb (a .count) n h, e)
+
+  pub stopped-none : n ≤ a .count → None ≡ stoppedAt rows n a
+  stopped-none h = rw (le-ltb (a .count) n h)
 
 -- ---- `place_pass`
 

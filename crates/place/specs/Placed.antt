@@ -16,6 +16,7 @@ use Rattle.layout.specs.Placing.{trunc, orElse, unless, firstFault, placeX, abo
 use Rattle.refusal.specs.declared.OptRefusal.{OptRefusal}
 use Rattle.refusal.specs.declared.OptRefusal.the-variants.{None}
 use Rattle.page.specs.Scan.{faultIs}
+use Rattle.rows.specs.declared.Fault.{Fault}
 use Rattle.rows.specs.declared.Row.{Row}
 use Rattle.rows.specs.Rows.{RowRoom, SpanRoom, rowsOf, spansOf}
 use Rattle.rows.specs.Measured.{faultOf}
@@ -87,6 +88,23 @@ module _ (c : Config) (q : Rect) (r : Row) (o : Sums) (a b : ℕ) where
       (orElse (unless (leb (a + b) (q .height)) (refusalOf r 13 0))
       (unless (leb (r .height) baseWith) (refusalOf r 14 0)))))
 
+-- the refusal of a group by its sums, or zeros
+abbrev pub acrossFault : Rect → Sums → Fault
+acrossFault q o =
+    pick (eqb (o .fault) 0)
+    (pick (ltb (q .width) (o .before + o .after)) (record { number = 13; detail = 0 }) (record { number = 0; detail = 0 }))
+    (record { number = o .fault; detail = o .detail })
+
+-- where a row stands across, with a before it in its group and b from there on
+abbrev pub acrossAt : Config → Rect → Row → ℕ → ℕ → ℕ
+acrossAt c q r a b = standsAt (r .«just_line») (c .«char_width») (q .left) (q .width) a b
+
+-- a row with the sums o of its group stands at x across, and the group fits
+pub record Crossed (c : Config) (q : Rect) (r : Row) (o : Sums) (x : ℕ) : Type 0 where
+  pub fine : o .fault ≡ 0
+  pub wide : o .before + o .after ≤ q .width
+  pub is : x ≡ acrossAt c q r (o .before) (o .after)
+
 -- a refusal, or else a record
 abbrev pub placedBy : Option Refusal → Span → Placed
 placedBy none s = At s
@@ -96,13 +114,16 @@ placedBy (some f) s = Refused f
 unfoldable pub placedWith : Config → Rect → Row → Sums → Heights → Placed
 placedWith c q r o v = placedBy (faultWith c q r o (v .above) (v .below) (faultOf (v .fault) (v .detail))) (recordWith c q r o (v .above) (v .below))
 
--- sums and heights that a row can be placed with
-pub record SpanAsked (q : Rect) (r : Row) (o : Sums) (v : Heights) : Type 0 where
+-- a row and heights that it can be placed with
+pub record SpanAsked (q : Rect) (r : Row) (v : Heights) : Type 0 where
   pub across : q .left + q .width ≤ 4096
   pub down : q .top + q .height ≤ 4096
-  pub sums : o .before + o .after ≤ 17592186044416
-  pub part : r .width ≤ o .after
+  pub part : r .width ≤ q .width
   pub high : v .above + v .below ≤ 33554432
+
+-- the row at x across was placed as with its group's sums, whatever they are
+abbrev pub SpanPlaced : Config → Rect → Row → ℕ → Heights → Placed → Type 0
+SpanPlaced c q r x v p = (o : Sums) → Crossed c q r o x → p ≡ placedWith c q r o v
 
 -- ---- the rows of a pass
 

@@ -4,10 +4,11 @@ ghost use Prim.Native.Nat.{_+_, _≤_, _<_};
 ghost use lib.ListN.{length};
 ghost use Rattle.layout.specs.Placing.{trunc as truncOf};
 ghost use Rattle.page.specs.Scan.{faultIs};
-ghost use Rattle.rows.specs.Rows.{RowRoom, rowsOf};
+ghost use Rattle.rows.specs.Rows.{RowRoom, rowsOf, CellPut};
 ghost use Rattle.lines.specs.Lines.{PageHeights};
 ghost use Rattle.place.specs.declared.Placed.the-variants.{Refused};
-ghost use Rattle.place.specs.Placed.{goesBackFrom, backRows, standsAt, refusalOf, recordBy, SpanAsked, placedWith, LinesMade, Placeable, RowByRow, PassPlaced};
+ghost use Rattle.place.specs.Placed.{goesBackFrom, backRows, standsAt, acrossAt, acrossFault, refusalOf, recordBy, SpanAsked, SpanPlaced, LinesMade, Placeable, RowByRow, PassPlaced};
+ghost use Rattle.place.specs.Groups.{MarkAsked, Ready, CrossedTo, GroupAsked, OthersAsked, GroupPlaced, PlacedAcross, DownAsked, PlacedDown, stoppedAt};
 use layout::Rect;
 use layout::Span;
 use lines::Heights;
@@ -15,6 +16,7 @@ use lines::PageLines;
 use records::Config;
 use refusal::OptRefusal;
 use refusal::Refusal;
+use rows::Fault;
 use rows::Row;
 use sums::Sums;
 
@@ -118,7 +120,7 @@ fn record_of(rect: Rect, r: Row, x: u16, y: u16) -> Span
         height: r.height,
         font: r.font,
         line: base::wide16(r.line),
-        span: r.span,
+        span: base::wide16(r.span),
         rect_x: rect.left + 1,
         rect_y: rect.top + 1,
         rect_width: rect.width,
@@ -126,17 +128,181 @@ fn record_of(rect: Rect, r: Row, x: u16, y: u16) -> Span
     }
 }
 
-// The span of a row, with the sums of its group and the heights of its line; the faults of x before those of y.
-fn place_span(c: Config, rect: Rect, r: Row, o: Sums, v: Heights) -> Placed
-    requires { ⌜ SpanAsked rect r o v ⌝ }
-    ensures { λ p. ⌜ p ≡ placedWith c rect r o v ⌝ }
+// The refusal of a group by its sums: its first fault, or 13, or none.
+fn fault_across(rect: Rect, o: Sums) -> Fault
+    requires { ⌜ o .before + o .after ≤ 17592186044416 ⌝ }
+    ensures { λ f. ⌜ f ≡ acrossFault rect o ⌝ }
 {
     if o.fault != 0 {
-        return refused(r, o.fault, o.detail);
+        return Fault {
+            number: o.fault,
+            detail: o.detail,
+        };
     }
     if (rect.width as u64) < o.before + o.after {
-        return refused(r, 13, 0);
+        return Fault {
+            number: 13,
+            detail: 0,
+        };
     }
+    Fault {
+        number: 0,
+        detail: 0,
+    }
+}
+
+// Row i is placed across, with a before it in its group and b from there on: it is marked with its x and 1.
+fn mark(c: Config, rect: Rect, out: &mut [u16], i: usize, r: Row, a: u64, b: u64)
+    requires { ⌜ MarkAsked rect (now out) i a b ⌝ }
+    ensures { λ _. ⌜ CellPut (now (out .entry)) i 1 (acrossAt c rect r a b + 1) (now (out .exit)) ⌝ }
+{
+    let x = stand(r.just_line, c.char_width, rect.left, rect.width, a, b);
+    rows::put_cell(out, i, sums::MARK, x + 1);
+}
+
+// All rows of the group of r are marked: the table tells what stands before each, and together they take total.
+fn mark_group(
+    c: Config,
+    rect: Rect,
+    rows: &[u16],
+    n: usize,
+    out: &mut [u16],
+    at: usize,
+    heads: &[u16],
+    r: Row,
+    total: u64,
+    table: &[u64],
+)
+    requires { ⌜ GroupAsked c rect (now rows) n (now out) at (now heads) r total (now table) ⌝ }
+    ensures { λ _. ⌜ CrossedTo c rect (now (rows .entry)) n (now (out .entry)) at (now (heads .entry)) (now (out .exit)) ⌝ }
+{
+    let mut p: usize = 0;
+    let mut sum = table[0];
+    let mut k = sums::first_of(heads, r.line);
+    while 0 < k {
+        let j = n - k;
+        let e = rows::row_at(rows, j);
+        k = sums::next_of(out, at, j);
+        if !sums::matches_span(r, e) {
+            continue;
+        }
+        let s = sums::byte_index(e.span);
+        sum = sums::reach(table, p, sum, s);
+        p = s;
+        mark(c, rect, out, at + j, e, sum, total - sum);
+    }
+}
+
+// The other rows of the group of r, whose sums are o.
+fn mark_others(
+    c: Config,
+    rect: Rect,
+    rows: &[u16],
+    n: usize,
+    out: &mut [u16],
+    at: usize,
+    heads: &[u16],
+    r: Row,
+    o: Sums,
+)
+    requires { ⌜ OthersAsked c rect (now rows) n (now out) at (now heads) r o ⌝ }
+    ensures { λ _. ⌜ CrossedTo c rect (now (rows .entry)) n (now (out .entry)) at (now (heads .entry)) (now (out .exit)) ⌝ }
+{
+    if o.count == 1 {
+        return;
+    }
+    let mut table = [0u64; 257];
+    sums::gather(rows, n, out, at, heads, r, &mut table);
+    mark_group(
+        c,
+        rect,
+        rows,
+        n,
+        out,
+        at,
+        heads,
+        r,
+        o.before + o.after,
+        &table,
+    );
+}
+
+// Row i is placed across with its whole group, if it is not yet; or the refusal of its group is answered.
+fn place_group(
+    c: Config,
+    rect: Rect,
+    rows: &[u16],
+    n: usize,
+    out: &mut [u16],
+    at: usize,
+    heads: &[u16],
+    i: usize,
+) -> Fault
+    requires { ⌜ Ready c rect (now rows) n (now out) at (now heads) × (i < n) ⌝ }
+    ensures { λ f. ⌜ GroupPlaced c rect (now (rows .entry)) n (now (out .entry)) at (now (heads .entry)) i (now (out .exit)) f ⌝ }
+{
+    let none = Fault {
+        number: 0,
+        detail: 0,
+    };
+    if rows::cell_at(out, at + i, sums::MARK) != 0 {
+        return none;
+    }
+    let r = rows::row_at(rows, i);
+    let o = sums::offset_horiz(rows, n, out, at, heads, r);
+    let f = fault_across(rect, o);
+    if f.number != 0 {
+        return f;
+    }
+    mark(c, rect, out, at + i, r, o.before, o.after);
+    mark_others(c, rect, rows, n, out, at, heads, r, o);
+    none
+}
+
+// How many rows of a pass, from the first on, are placed across; number and detail of the refusal of the next.
+struct Across {
+    count: usize,
+    number: u8,
+    detail: u16,
+}
+
+// The rows of a pass are placed across, group by group, up to the first that is refused.
+fn place_across(
+    c: Config,
+    rect: Rect,
+    rows: &[u16],
+    n: usize,
+    out: &mut [u16],
+    at: usize,
+    heads: &[u16],
+) -> Across
+    requires { ⌜ Ready c rect (now rows) n (now out) at (now heads) ⌝ }
+    ensures { λ a. ⌜ PlacedAcross c rect (now (rows .entry)) n (now (out .entry)) at (now (out .exit)) a ⌝ }
+{
+    let mut i: usize = 0;
+    while i < n {
+        let f = place_group(c, rect, rows, n, out, at, heads, i);
+        if f.number != 0 {
+            return Across {
+                count: i,
+                number: f.number,
+                detail: f.detail,
+            };
+        }
+        i += 1;
+    }
+    Across {
+        count: n,
+        number: 0,
+        detail: 0,
+    }
+}
+
+// The span of a row that is placed across, with the heights of its line.
+fn place_span(c: Config, rect: Rect, r: Row, x: u16, v: Heights) -> Placed
+    requires { ⌜ SpanAsked rect r v ⌝ }
+    ensures { λ p. ⌜ SpanPlaced c rect r x v p ⌝ }
+{
     if v.fault != 0 {
         return refused(r, v.fault, v.detail);
     }
@@ -154,14 +320,6 @@ fn place_span(c: Config, rect: Rect, r: Row, o: Sums, v: Heights) -> Placed
     if foot < r.height {
         return refused(r, 14, 0);
     }
-    let x = stand(
-        r.just_line,
-        c.char_width,
-        rect.left,
-        rect.width,
-        o.before,
-        o.after,
-    );
     Placed::At(record_of(rect, r, x, foot - r.height))
 }
 
@@ -183,6 +341,57 @@ fn lines_for(
     lines::page_lines(char_height, rows, n, want, feet)
 }
 
+// The first m rows, which are placed across: a refusal, or their records.
+fn place_down(
+    c: Config,
+    rect: Rect,
+    rows: &[u16],
+    n: usize,
+    out: &mut [u16],
+    at: usize,
+    m: usize,
+) -> OptRefusal
+    requires { ⌜ DownAsked c rect (now rows) n (now out) at m ⌝ }
+    ensures { λ r. ⌜ PlacedDown c rect (now (rows .entry)) n (now (out .entry)) at m (now (out .exit)) r ⌝ }
+{
+    let mut feet = [0u32; 256];
+    let mut page = lines::page_lines(c.char_height, rows, n, 2, &mut feet);
+    let mut i: usize = 0;
+    while i < m {
+        let r = rows::row_at(rows, i);
+        page = lines_for(page, c.char_height, rows, n, r.just_page, &mut feet);
+        let v = lines::offset_vert(page, &feet, r.line);
+        let x = rows::cell_at(out, at + i, sums::MARK) - 1;
+        match place_span(c, rect, r, x, v) {
+            Placed::Refused(f) => {
+                return OptRefusal::Some(f);
+            }
+            Placed::At(s) => {
+                rows::put_span(out, at + i, s);
+                i += 1;
+            }
+        }
+    }
+    OptRefusal::None
+}
+
+// The refusal of the row at which placing across stopped, if it did.
+fn stopped(rows: &[u16], n: usize, a: Across) -> OptRefusal
+    requires { ⌜ (n ≤ 2048) × RowRoom n (now rows) ⌝ }
+    ensures { λ r. ⌜ r ≡ stoppedAt (now (rows .entry)) n a ⌝ }
+{
+    if a.count < n {
+        let r = rows::row_at(rows, a.count);
+        return OptRefusal::Some(Refusal {
+            number: a.number,
+            start: r.start,
+            length: r.len,
+            detail: a.detail,
+        });
+    }
+    OptRefusal::None
+}
+
 // Row by row: a refusal, or all records.
 fn place_rows(
     c: Config,
@@ -195,25 +404,13 @@ fn place_rows(
     requires { ⌜ Placeable rect (now rows) n (now out) at ⌝ }
     ensures { λ r. ⌜ RowByRow c rect (now (rows .entry)) n (now (out .entry)) at (now (out .exit)) r ⌝ }
 {
-    let mut feet = [0u32; 256];
-    let mut page = lines::page_lines(c.char_height, rows, n, 2, &mut feet);
-    let mut i: usize = 0;
-    while i < n {
-        let r = rows::row_at(rows, i);
-        page = lines_for(page, c.char_height, rows, n, r.just_page, &mut feet);
-        let v = lines::offset_vert(page, &feet, r.line);
-        let o = sums::offset_horiz(rows, n, r);
-        match place_span(c, rect, r, o, v) {
-            Placed::Refused(f) => {
-                return OptRefusal::Some(f);
-            }
-            Placed::At(s) => {
-                rows::put_span(out, at + i, s);
-                i += 1;
-            }
-        }
+    let mut heads = [0u16; 256];
+    sums::link_rows(rows, n, out, at, &mut heads);
+    let a = place_across(c, rect, rows, n, out, at, &heads);
+    match place_down(c, rect, rows, n, out, at, a.count) {
+        OptRefusal::Some(f) => OptRefusal::Some(f),
+        OptRefusal::None => stopped(rows, n, a),
     }
-    OptRefusal::None
 }
 
 // The records of a pass of n rows are stored from place at on, or its first refusal is answered.

@@ -9,7 +9,7 @@ use native.Mathlib.Nat.{mod-eq-of-lt, div-add-mod, mul-suc, mul-le-mul-left}
 use native.Mathlib.Omega.{arith}
 use lib.Dec.{ltb, eqb}
 use lib.ListN.{length, getD, set, take, drop, length-append, length-set, drop-of-length-le}
-use lib.Seq.{length-take-le, drop-cons, take-at, drop-at, drop-append-le, drop-set-lt, drop-set-add, take-set-le, sets, length-sets, sets-eq}
+use lib.Seq.{getD-set-same, getD-set-other, length-take-le, drop-cons, take-at, drop-at, drop-append-le, drop-set-lt, drop-set-add, take-set-le, sets, length-sets, sets-eq}
 use borrow.Author.Tests.{ltb-true, ltb-false}
 use Rattle.base.specs.Pick.{pick}
 use Rattle.layout.specs.declared.Span.{Span}
@@ -18,7 +18,7 @@ use Rattle.rows.specs.declared.Fault.{Fault}
 use Rattle.rows.specs.declared.Row.{Row}
 use Rattle.rows.specs.Measured.{faultOf, earlierOf}
 use Rattle.rows.specs.Rows.{cells, cellsAt, stored, rowWidth, RowRoom, numbersOf, rowWith, rowFrom, rowAt, putRow, rowsOf, ByteFields, RowPut}
-use Rattle.rows.specs.Rows.{spanWidth, SpanRoom, spanNumbers, spanFrom, spanAt, putSpan, spansOf, SpanPut}
+use Rattle.rows.specs.Rows.{spanWidth, SpanRoom, spanNumbers, spanFrom, spanAt, putSpan, spansOf, SpanPut, cellAt, CellPut}
 
 -- ---- cells
 
@@ -130,7 +130,7 @@ module _ {A : Type 0} (w : ℕ) (from : List ℕ → A) (l : List ℕ) (i : ℕ)
 pub row-read : (r : Row) → ByteFields r → rowFrom (numbersOf r) ≡ r
 row-read r b =
     let e : r .width % 65536 + 65536 * (r .width / 65536) ≡ r .width = omega (arith, div-add-mod (r .width) 65536) in
-    rw (mod-eq-of-lt (b .line), mod-eq-of-lt (b .fault), e)
+    rw (mod-eq-of-lt (b .line), mod-eq-of-lt (b .span), mod-eq-of-lt (b .fault), e)
 
 pub rows-put : (l : List ℕ) (i : ℕ) (r : Row) → RowRoom (i + 1) l → ByteFields r → rowsOf (putRow l i r) (i + 1) ≡ rowsOf l i ++ (r ∷ [])
 unfolding rowsOf rowAt putRow
@@ -162,6 +162,37 @@ span-was-put l l′ i s e = record { put = e; room = ap length e ∙ length-sets
 pub spans-length : (l : List ℕ) (n : ℕ) → length (spansOf l n) ≡ n
 unfolding spansOf
 spans-length l n = cells-length (spanAt l) 0 n
+
+-- ---- a record that is not written yet
+
+pub cell-was-put : {l : List ℕ} {i k x : ℕ} → CellPut l i k x (set l (spanWidth * i + k) x)
+cell-was-put {l} {i} {k} {x} = record { put = refl; room = length-set l (spanWidth * i + k) x }
+
+module _ {l : List ℕ} {i k x : ℕ} {l′ : List ℕ} (p : CellPut l i k x l′) where
+  pub cell-put : k < spanWidth → SpanRoom (i + 1) l → cellAt l′ i k ≡ x
+  cell-put h q = ap (λ (m : List ℕ). getD m (spanWidth * i + k) 0) (p .put) ∙ getD-set-same l (spanWidth * i + k) x 0 (omega arith)
+
+  pub cell-stays : (j m : ℕ) → (spanWidth * j + m ≡ spanWidth * i + k → ⊥) → cellAt l′ j m ≡ cellAt l j m
+  cell-stays j m h =
+      ap (λ (y : List ℕ). getD y (spanWidth * j + m) 0) (p .put) ∙ getD-set-other l (spanWidth * i + k) (spanWidth * j + m) x 0 h
+
+  -- the records before it stay
+  pub spans-stay : (n : ℕ) → n ≤ i → spansOf l′ n ≡ spansOf l n
+  unfolding spansOf spanAt
+  spans-stay n h =
+      ap (λ (y : List ℕ). cells (λ j. spanFrom (cellsAt spanWidth y j)) 0 n) (p .put)
+      ∙ cells-same (λ j. spanFrom (cellsAt spanWidth (set l (spanWidth * i + k) x) j)) (λ j. spanFrom (cellsAt spanWidth l j)) 0 n
+      (λ j q. ap spanFrom (before (x ∷ []) l (spanWidth * i + k) (spanWidth * j) spanWidth (omega arith)))
+
+-- and so do the numbers of later records where one is written
+far : (ws l : List ℕ) (k n : ℕ) → k + length ws ≤ n → getD (sets l k ws) n 0 ≡ getD l n 0
+far [] l k n h = refl
+far (x ∷ ws) l k n h = far ws (set l k x) (suc k) n (omega arith) ∙ getD-set-other l k n x 0 (λ e. omega arith)
+
+pub cell-ahead : {l : List ℕ} {i : ℕ} {s : Span} {l′ : List ℕ} → SpanPut l i s l′ → (j k : ℕ) → i < j → cellAt l′ j k ≡ cellAt l j k
+unfolding putSpan
+cell-ahead {l} {i} {s} p j k h =
+    ap (λ (y : List ℕ). getD y (spanWidth * j + k) 0) (p .put) ∙ far (spanNumbers s) l (spanWidth * i) (spanWidth * j + k) (omega arith)
 
 -- ---- faults
 

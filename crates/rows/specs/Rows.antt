@@ -2,7 +2,7 @@
 use Prim.Native.Nat.{ℕ, zero, suc, _+_, _*_, _/_, _%_, _≤_, _<_}
 use mathlib.Core.Path.{_≡_}
 use mathlib.Core.List.{List, [], _∷_}
-use lib.ListN.{length, getD, take, drop}
+use lib.ListN.{length, getD, set, take, drop}
 use lib.Seq.{sets}
 use Rattle.layout.specs.declared.Span.{Span}
 use Rattle.rows.specs.declared.Row.{Row}
@@ -65,7 +65,7 @@ rowWith l w =
       «just_line» = getD l 5 0;
       font = getD l 6 0;
       line = getD l 7 0 % 256;
-      span = getD l 8 0;
+      span = getD l 8 0 % 256;
       fixed = getD l 9 0;
       spacing = getD l 10 0;
       led = getD l 11 0;
@@ -93,6 +93,7 @@ rowsOf l n = cells (rowAt l) 0 n
 -- what is a byte in a row is one: then the row is read as it was put
 pub record ByteFields (r : Row) : Type 0 where
   pub line : r .line < 256
+  pub span : r .span < 256
   pub fault : r .fault < 256
 
 -- a row was put
@@ -164,4 +165,15 @@ spansOf l n = cells (spanAt l) 0 n
 -- a record was put
 pub record SpanPut (out : List ℕ) (i : ℕ) (s : Span) (out′ : List ℕ) : Type 0 where
   pub put : out′ ≡ putSpan out i s
+  pub room : length out′ ≡ length out
+
+-- ---- a record that is not written yet
+
+-- number k of record i
+abbrev pub cellAt : List ℕ → ℕ → ℕ → ℕ
+cellAt l i k = getD l (spanWidth * i + k) 0
+
+-- x was put there
+pub record CellPut (out : List ℕ) (i k x : ℕ) (out′ : List ℕ) : Type 0 where
+  pub put : out′ ≡ set out (spanWidth * i + k) x
   pub room : length out′ ≡ length out

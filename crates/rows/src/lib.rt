@@ -4,7 +4,7 @@ ghost use Prim.Native.Nat.{_+_, _*_, _/_, _%_, _≤_, _<_};
 ghost use lib.ListN.{length};
 ghost use lib.Seq.{sets};
 ghost use Rattle.rows.specs.Measured.{earlierOf};
-ghost use Rattle.rows.specs.Rows.{rowWidth, RowRoom, numbersOf, rowWith, rowAt, ByteFields, RowPut, spanWidth, SpanRoom, spanFrom, spanAt, SpanPut};
+ghost use Rattle.rows.specs.Rows.{rowWidth, RowRoom, numbersOf, rowWith, rowAt, ByteFields, RowPut, spanWidth, SpanRoom, spanFrom, spanAt, SpanPut, cellAt, CellPut};
 use layout::Span;
 
 // An entry of a pass with its measures. kind to code: as in its record. just_page to span: of the state it was read in.
@@ -19,7 +19,7 @@ pub struct Row {
     pub just_line: u16,
     pub font: u16,
     pub line: u8,
-    pub span: u16,
+    pub span: u8,
     pub fixed: u16,
     pub spacing: u16,
     pub led: u16,
@@ -103,7 +103,7 @@ fn store(cells: &mut [u16], at: usize, numbers: &[u16])
     }
 }
 
-// The row that numbers are, with its width; line number and fault are cut to 8 bits, whatever the slice holds.
+// The row that numbers are, with its width; line number, span number and fault are cut to 8 bits, whatever the slice holds.
 fn row_from(n: &[u16], width: u32) -> Row
     requires { ⌜ length (now n) ≡ rowWidth ⌝ }
     ensures { λ r. ⌜ r ≡ rowWith (now (n .entry)) width ⌝ }
@@ -117,7 +117,7 @@ fn row_from(n: &[u16], width: u32) -> Row
         just_line: n[5],
         font: n[6],
         line: (n[7] % 256) as u8,
-        span: n[8],
+        span: (n[8] % 256) as u8,
         fixed: n[9],
         spacing: n[10],
         led: n[11],
@@ -145,6 +145,7 @@ fn numbers_of(r: Row) -> [u16; ROW_WIDTH]
     ensures { λ l. ⌜ (l ≡ numbersOf r) × ByteFields r ⌝ }
 {
     let line = base::wide16(r.line);
+    let span = base::wide16(r.span);
     let fault = base::wide16(r.fault);
     let low = low_half(r.width);
     let high = high_half(r.width);
@@ -157,7 +158,7 @@ fn numbers_of(r: Row) -> [u16; ROW_WIDTH]
         r.just_line,
         r.font,
         line,
-        r.span,
+        span,
         r.fixed,
         r.spacing,
         r.led,
@@ -236,4 +237,20 @@ pub fn put_span(out: &mut [u16], i: usize, s: Span)
         s.rect_height,
     ];
     store(out, SPAN_WIDTH * i, &numbers);
+}
+
+// Until a record is written its numbers are free: number k of record i.
+pub fn cell_at(out: &[u16], i: usize, k: usize) -> u16
+    requires { ⌜ (i < 2048) × (k < spanWidth) × SpanRoom (i + 1) (now out) ⌝ }
+    ensures { λ r. ⌜ r ≡ cellAt (now (out .entry)) i k ⌝ }
+{
+    out[SPAN_WIDTH * i + k]
+}
+
+// A number is put there.
+pub fn put_cell(out: &mut [u16], i: usize, k: usize, x: u16)
+    requires { ⌜ (i < 2048) × (k < spanWidth) × SpanRoom (i + 1) (now out) ⌝ }
+    ensures { λ _. ⌜ CellPut (now (out .entry)) i k x (now (out .exit)) ⌝ }
+{
+    out[SPAN_WIDTH * i + k] = x;
 }

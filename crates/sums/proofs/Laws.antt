@@ -1,5 +1,6 @@
--- The sums of the loop are those of the definition.
-use Prim.Native.Nat.{ℕ, _+_, _-_, _*_, _/_, _≤_, _<_}
+-- The sums of a pass are those of the definition.
+use Prim.Native.Nat.{ℕ, suc, _+_, _/_, _<_}
+use native.Mathlib.Numerals.{add-one}
 use native.Mathlib.Omega.{arith}
 use mathlib.Core.Path.{_≡_, refl, sym, _∙_, ap}
 use mathlib.Core.Bool.{Bool, true, false}
@@ -15,11 +16,10 @@ use Rattle.layout.specs.Types.{unwrapOr, Meter}
 use Rattle.layout.specs.Placing.{orElse, firstFault, keep, select, same, due, gap, sumBefore, sumAfter}
 use Rattle.rows.specs.declared.Fault.{Fault}
 use Rattle.rows.specs.declared.Row.{Row}
-use Rattle.rows.specs.Rows.{cells, RowRoom, rowAt, rowsOf}
 use Rattle.rows.specs.Measured.{flag, faultNumber, faultDetail, rowOf, faultOf, RowTells}
-use Rattle.rows.proofs.Laws.{cells-next, cells-done, earlier-is}
+use Rattle.rows.proofs.Laws.{earlier-is}
 use Rattle.sums.specs.declared.Sums.{Sums}
-use Rattle.sums.specs.Sums.{sameRow, gapOf, firstOf, joinedBy, joined, advanced, sums, noneYet, GrownTo, SumsOf}
+use Rattle.sums.specs.Sums.{sameRow, gapOf, firstOf, joinedBy, joined, advanced, sums, noneYet, GrownTo}
 
 -- ---- the functions
 
@@ -38,19 +38,19 @@ pub ruleset span-ways = (page-other, line-other, line-same)
 
 -- `gap`
 module _ (o : Sums) (e : Row) where
-  pub gap-none : o .seen ≡ false → 0 ≡ gapOf o e
-  gap-none h = rw h
+  pub gap-none : o .count ≡ 0 → 0 ≡ gapOf o e
+  gap-none h = rw (eq-eqb (o .count) 0 h)
 
-  pub gap-fixed : o .seen ≡ true → e .fixed ≡ 1 → e .spacing ≡ gapOf o e
-  gap-fixed h k = rw (h, eq-eqb (e .fixed) 1 k)
+  pub gap-fixed : (o .count ≡ 0 → ⊥) → e .fixed ≡ 1 → e .spacing ≡ gapOf o e
+  gap-fixed h k = rw (ne-eqb (o .count) 0 h, eq-eqb (e .fixed) 1 k)
 
-  pub gap-half : o .seen ≡ true → (e .fixed ≡ 1 → ⊥) → (r : ℕ) → r ≡ (o .spacing + e .spacing + 1) / 2 → r ≡ gapOf o e
-  gap-half h k r d = rw (h, ne-eqb (e .fixed) 1 k) d
+  pub gap-half : (o .count ≡ 0 → ⊥) → (e .fixed ≡ 1 → ⊥) → (r : ℕ) → r ≡ (o .spacing + e .spacing + 1) / 2 → r ≡ gapOf o e
+  gap-half h k r d = rw (ne-eqb (o .count) 0 h, ne-eqb (e .fixed) 1 k) d
 
 pub ruleset gap-ways = (gap-none, gap-fixed, gap-half)
 
 -- `join`: at most a gap and a width more
-halves : (t : Bool) (x : ℕ) → pick t x 0 + pick t 0 x ≡ x
+pub halves : (t : Bool) (x : ℕ) → pick t x 0 + pick t 0 x ≡ x
 halves true x = omega arith
 halves false x = omega arith
 
@@ -58,11 +58,12 @@ halves false x = omega arith
 pub joins : (n : ℕ) (o : Sums) (e : Row) {g : ℕ} → (g ≡ gapOf o e) × (g < 65536) → {w : ℕ} → (w ≡ e .width) × (w < 4294967296) → {f : Fault} → f ≡ firstOf o e
     → {b : ℕ} → b ≡ o .before + pick (leb (e .span) n) g 0 + pick (ltb (e .span) n) w 0
     → {a : ℕ} → a ≡ o .after + pick (leb (e .span) n) 0 g + pick (ltb (e .span) n) 0 w
-    → GrownTo o (joined n o e) (record { before = b; after = a; seen = true; spacing = e .spacing; fault = f .number; detail = f .detail })
+    → GrownTo o (joined n o e) (record { before = b; after = a; count = o .count + 1; spacing = e .spacing; fault = f .number; detail = f .detail })
 joins n o e {g} hg {w} hw hf p q =
     record {
-      is = rw (p, q, hf, hw .0) (ap (joinedBy n o e) (hg .0));
+      is = rw (p, q, hf, hw .0, add-one (o .count)) (ap (joinedBy n o e) (hg .0));
       most = omega (arith, halves (leb (e .span) n) g, halves (ltb (e .span) n) w);
+      rows = omega arith;
     }
 
 -- `advance`: s is what `matches_span` answered
@@ -72,37 +73,10 @@ module _ (r : Row) (o : Sums) (e : Row) {s : Bool} (f : s ≡ sameRow r e) where
   picked t h = ap (λ (b : Bool). pick b (joined (r .span) o e) o) h
 
   pub advance-join : {q : Sums} → s ≡ true → GrownTo o (joined (r .span) o e) q → GrownTo o (advanced r o e) q
-  advance-join h k = record { is = k .is ∙ sym (picked true (sym f ∙ h)); most = k .most }
+  advance-join h k = record { is = k .is ∙ sym (picked true (sym f ∙ h)); most = k .most; rows = k .rows }
 
   pub advance-stay : s ≡ false → GrownTo o (advanced r o e) o
-  advance-stay h = record { is = sym (picked false (sym f ∙ h)); most = omega arith }
-
--- ---- the loop: the sums of the first i rows
-
-pub record Summing (rows : List ℕ) (n : ℕ) (r : Row) (o : Sums) (i : ℕ) : Type 0 where
-  pub few : n ≤ 2048
-  pub room : RowRoom n rows
-  pub within : i ≤ n
-  pub most : o .before + o .after ≤ 8589934592 * i
-  pub rest : sums r o (cells (rowAt rows) i (n - i)) ≡ sums r noneYet (rowsOf rows n)
-
-pub sums-start : {rows : List ℕ} {n : ℕ} {r : Row} → (n ≤ 2048) × RowRoom n rows → Summing rows n r noneYet 0
-unfolding rowsOf
-sums-start {n = n} h = record { few = h .0; room = h .1; within = omega arith; most = omega arith; rest = let e : n - 0 ≡ n = omega arith in rw e }
-
-module _ {rows : List ℕ} {n : ℕ} {r : Row} {o : Sums} {i : ℕ} (z : Summing rows n r o i) where
-  pub sums-on : i < n → {e : Row} → e ≡ rowAt rows i → {p : Sums} → GrownTo o (advanced r o e) p → Summing rows n r p (i + 1)
-  sums-on h k d =
-      record {
-        few = z .few;
-        room = z .room;
-        within = omega arith;
-        most = omega (arith, d .most, z .most);
-        rest = rw (d .is, k) (rw (cells-next (rowAt rows) i n h) at (z .rest));
-      }
-
-  pub sums-end : n ≤ i → SumsOf rows n r o
-  sums-end h = record { is = rw (cells-done (rowAt rows) i n h) at (z .rest); most = omega (arith, z .most, z .within, z .few) }
+  advance-stay h = record { is = sym (picked false (sym f ∙ h)); most = omega arith; rows = omega arith }
 
 -- ---- the definitions
 
@@ -114,8 +88,8 @@ assoc (some x) b c = refl
 module _ (m : Meter) (p : RowTells m) where
   -- the sums after the span before, if there is one
   abbrev Follows : Sums → Option Entry → Type 0
-  Follows o none = o .seen ≡ false
-  Follows o (some q) = (o .seen ≡ true) × (o .spacing ≡ m .spacing q)
+  Follows o none = o .count ≡ 0
+  Follows o (some q) = (eqb (o .count) 0 ≡ false) × (o .spacing ≡ m .spacing q)
 
   due-is : (e : Entry) (h : ℕ) (s : OptNum) → e .state .«char_spacing» ≡ s → pick (eqb (flag s) 1) (m .spacing e) h ≡ unwrapOr s h
   due-is e h None k = refl
@@ -123,7 +97,7 @@ module _ (m : Meter) (p : RowTells m) where
 
   gap-is : (o : Sums) (q : Option Entry) (e : Entry) → Follows o q → gapOf o (rowOf m e) ≡ gap m q e
   unfolding due
-  gap-is o none e k = rw k
+  gap-is o none e k = rw (eq-eqb (o .count) 0 k)
   gap-is o (some q) e k = rw (k .0, k .1) (due-is e ((m .spacing q + m .spacing e + 1) / 2) (e .state .«char_spacing») refl)
 
   fault-is : (o : Sums) (e : Entry) → faultOf (firstOf o (rowOf m e) .number) (firstOf o (rowOf m e) .detail)
@@ -167,7 +141,7 @@ module _ (m : Meter) (p : RowTells m) where
       step : (t : Bool)
           → ((p : Sums) (x : Option Entry) → Follows p x → Agree (r .state .span) p x (select (same r) es) (sums (rowOf m r) p (map (rowOf m) es)))
           → Agree (r .state .span) o q (keep t e (select (same r) es)) (sums (rowOf m r) (pick t (joined (r .state .span) o (rowOf m e)) o) (map (rowOf m) es))
-      step true ih = agree-join (r .state .span) o q e (select (same r) es) _ k (ih (joined (r .state .span) o (rowOf m e)) (some e) (refl, refl))
+      step true ih = agree-join (r .state .span) o q e (select (same r) es) _ k (ih (joined (r .state .span) o (rowOf m e)) (some e) (ne-eqb (suc (o .count)) 0 (λ x. omega arith), refl))
       step false ih = ih o q k
 
   -- what stands before a span in its group, what from there on, and the group's first fault

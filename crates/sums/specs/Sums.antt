@@ -1,7 +1,7 @@
--- Offsets across as the loop makes them: one step for each row of the pass.
-use Prim.Native.Nat.{ℕ, _+_, _/_, _≤_}
+-- Offsets across, one step for each row of the pass.
+use Prim.Native.Nat.{ℕ, suc, _+_, _/_, _≤_}
 use mathlib.Core.Path.{_≡_}
-use mathlib.Core.Bool.{Bool, true, false, _&&_}
+use mathlib.Core.Bool.{Bool, _&&_}
 use mathlib.Core.List.{List, [], _∷_}
 use lib.Dec.{leb, ltb, eqb}
 use Rattle.base.specs.Pick.{pick}
@@ -17,7 +17,7 @@ sameRow r e = eqb (r .«just_page») (e .«just_page») && (eqb (r .line) (e .li
 
 -- the spacing due before a row
 abbrev pub gapOf : Sums → Row → ℕ
-gapOf o e = pick (o .seen) (pick (eqb (e .fixed) 1) (e .spacing) ((o .spacing + e .spacing + 1) / 2)) 0
+gapOf o e = pick (eqb (o .count) 0) 0 (pick (eqb (e .fixed) 1) (e .spacing) ((o .spacing + e .spacing + 1) / 2))
 
 -- the first fault, with a row more
 abbrev pub firstOf : Sums → Row → Fault
@@ -29,7 +29,7 @@ joinedBy n o e g =
     record {
       before = o .before + pick (leb (e .span) n) g 0 + pick (ltb (e .span) n) (e .width) 0;
       after = o .after + pick (leb (e .span) n) 0 g + pick (ltb (e .span) n) 0 (e .width);
-      seen = true;
+      count = suc (o .count);
       spacing = e .spacing;
       fault = firstOf o e .number;
       detail = firstOf o e .detail;
@@ -49,12 +49,18 @@ sums r o (e ∷ es) = sums r (advanced r o e) es
 
 -- before the first row
 abbrev pub noneYet : Sums
-noneYet = record { before = 0; after = 0; seen = false; spacing = 0; fault = 0; detail = 0 }
+noneYet = record { before = 0; after = 0; count = 0; spacing = 0; fault = 0; detail = 0 }
+
+-- sums with room for one row more
+pub record Addable (o : Sums) : Type 0 where
+  pub sum : o .before + o .after ≤ 17592186044416
+  pub rows : o .count ≤ 2048
 
 -- the sums o have become next: a gap and a width more at most
 pub record GrownTo (o next q : Sums) : Type 0 where
   pub is : q ≡ next
   pub most : q .before + q .after ≤ o .before + o .after + 8589934592
+  pub rows : q .count ≤ suc (o .count)
 
 -- the sums of the first n rows, for the span with the row r
 pub record SumsOf (rows : List ℕ) (n : ℕ) (r : Row) (s : Sums) : Type 0 where

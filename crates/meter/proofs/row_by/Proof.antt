@@ -9,7 +9,6 @@ row-by-spec =
     (λ c κs. search needs)  -- wide16-requires
     (λ c κs. search needs)  -- wide16-requires-2
     (λ c κs. search needs)  -- wide16-requires-3
-    (λ c κs. search needs)  -- wide16-requires-4
     (λ c κs. search needs)  -- flag-requires
     (λ c κs. search needs)  -- flag-requires-2
     (λ c κs. search needs)  -- unwrap-or-requires

@@ -8,6 +8,7 @@ numbers-of-spec =
     tie.close (tie.spec
     (λ c κs. search needs)  -- wide16-requires
     (λ c κs. search needs)  -- wide16-requires-2
+    (λ c κs. search needs)  -- wide16-requires-3
     (λ c κs. search needs)  -- low-half-requires
     (λ c κs. search needs)  -- high-half-requires
     (λ c.

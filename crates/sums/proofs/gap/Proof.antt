@@ -6,8 +6,8 @@ use Rattle.sums.proofs.gap.Tie as tie
 pub gap-spec : {M : Type 1} → statement M
 gap-spec =
     tie.close (tie.spec
-    (λ c. search needs)  -- cast-result
     (λ c. search (gap-ways, needs) depth 6)  -- returns
-    (λ c κs. search needs)  -- half-up-requires
+    (λ c. search needs)  -- cast-result
     (λ c. search (gap-ways, needs) depth 6)  -- returns-2
+    (λ c κs. search needs)  -- half-up-requires
     (λ c. search (gap-ways, needs) depth 6))  -- returns-3

@@ -11,4 +11,5 @@ join-spec =
     (λ c κs. search needs)  -- earlier-requires
     (λ c κs. search needs)  -- add-where-requires
     (λ c κs. search needs)  -- add-else-requires
+    (λ c. search needs)  -- add-t18
     (λ c. search joins))  -- returns
