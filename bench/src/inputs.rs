@@ -73,6 +73,26 @@ fn wide() -> Vec<u8> {
     with_ids(s)
 }
 
+/// A high sign on which 250 lines fit
+fn high() -> Vec<u8> {
+    let mut s = configuration(64, 2600);
+    s.extend(font(1, 7, 0, 1, 1..257));
+    with_ids(s)
+}
+
+/// So many spans of each of nine groups on line 0: every page justification with every line justification
+fn nine(count: usize) -> String {
+    let mut m = String::new();
+    for page in 2..=4 {
+        m += &format!("[jp{page}]");
+        for line in 2..=4 {
+            m += &format!("[jl{line}]");
+            m += &"A[[".repeat(count / 2);
+        }
+    }
+    m
+}
+
 /// So many spans in one pass: `A[[A[[..`, with a [jl] after each 250
 fn spans(count: usize) -> String {
     let mut m = String::new();
@@ -104,7 +124,9 @@ pub fn inputs() -> Vec<Input> {
         sign: sign.clone(),
         message,
     };
-    let (small, full, wide) = (small(), full(), wide());
+    let (small, full, wide, high) = (small(), full(), wide(), high());
+    let to_and_fro = "A[nl]A[jp3][jp2]";
+    let line = "A[[A[[A[nl]";
     vec![
         of("", "one line", &small, "CAR PARK FULL".into()),
         of("", "three pages", &small, three.into()),
@@ -116,6 +138,21 @@ pub fn inputs() -> Vec<Input> {
         of("spans", "300 spans in a pass", &wide, spans(300)),
         of("spans", "600 spans in a pass", &wide, spans(600)),
         of("spans", "1,200 spans in a pass", &wide, spans(1_200)),
+        of("again", "80 spans of one number", &wide, "A[jl2]".repeat(80)),
+        of("again", "160 spans of one number", &wide, "A[jl2]".repeat(160)),
+        of("again", "320 spans of one number", &wide, "A[jl2]".repeat(320)),
+        of("nine", "9 groups of 32 spans on a line", &wide, nine(32)),
+        of("nine", "9 groups of 64 spans on a line", &wide, nine(64)),
+        of("nine", "9 groups of 128 spans on a line", &wide, nine(128)),
+        of("fro", "32 times to and fro between groups", &wide, to_and_fro.repeat(32)),
+        of("fro", "64 times to and fro between groups", &wide, to_and_fro.repeat(64)),
+        of("fro", "128 times to and fro between groups", &wide, to_and_fro.repeat(128)),
+        of("lines", "60 lines", &high, "A[nl]".repeat(60)),
+        of("lines", "120 lines", &high, "A[nl]".repeat(120)),
+        of("lines", "240 lines", &high, "A[nl]".repeat(240)),
+        of("full lines", "45 lines of five spans", &high, line.repeat(45)),
+        of("full lines", "90 lines of five spans", &high, line.repeat(90)),
+        of("full lines", "180 lines of five spans", &high, line.repeat(180)),
         of("pages", "64 pages", &small, "[np]".repeat(63)),
         of("pages", "128 pages", &small, "[np]".repeat(127)),
         of("pages", "256 pages", &small, "[np]".repeat(255)),

@@ -105,3 +105,12 @@ def sums_block(rng, room):
     maker = messages.SumsMaker(rng, plan)
     for _ in range(min(rng.randint(10, 30), room)):
         yield "L " + word(maker.message()), True
+
+
+def groups_block(rng, room):
+    """An S line of a roomy board and some cases of many groups on it, as (line, is a case)."""
+    plan = signs.roomy_sign(rng)
+    yield "S " + word(plan.data()), False
+    maker = messages.GroupsMaker(rng, plan)
+    for _ in range(min(rng.randint(10, 30), room)):
+        yield "L " + word(maker.message()), True

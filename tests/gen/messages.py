@@ -725,3 +725,68 @@ class SumsMaker:
         else:
             parts = ("A", rng.choice(("[nl]", "[jl4]", "[tr1,1,0,0]", "[np]")), run, self.fault())
         return "".join(parts).encode()
+
+
+class GroupsMaker:
+    """Makes messages for a board of `signs.roomy_sign` whose groups are no runs and whose span numbers repeat: [jl] again, [jp] there
+    and back, empty lines, every justification, fonts and spacings between spans."""
+
+    def __init__(self, rng, sign):
+        self.rng = rng
+        self.sign = sign
+
+    def text(self):
+        return self.rng.choice(("A", "B", "AB", "[[", "]]", "[hc41]", "A[[", "[[[[A", "B[[B[[B"))
+
+    def just(self, wanted):
+        self.line_just = wanted
+        return "[jl]" if wanted == self.sign.just_line and self.rng.random() < 0.5 else "[jl%d]" % wanted
+
+    def kept(self):
+        """The line justification that the last span of this line has at least, now and then not."""
+        page, line, just = self.last
+        if (page, line) == (self.page, self.line) and self.line_just < just and self.rng.random() < 0.97:
+            return self.just(self.rng.randint(just, 4))
+        return ""
+
+    def span(self):
+        before = self.kept()
+        self.last = (self.page, self.line, self.line_just)
+        return before + self.text()
+
+    def turn(self):
+        """[jp] there and back: line and span numbers restart."""
+        other = self.rng.choice([page for page in (2, 3, 4) if page != self.page])
+        self.line = 0
+        return "[jp%d][jp%d]" % (other, self.page)
+
+    def page_on(self):
+        wanted = self.rng.randint(self.page, 4)
+        self.line = self.line if wanted == self.page else 0
+        self.page = wanted
+        return "[jp%d]" % wanted
+
+    def new_line(self):
+        before = self.kept()
+        self.last = (self.page, self.line, self.line_just)
+        self.line += 1
+        return before + ("[nl]" if self.sign.char_height else self.rng.choice(("[nl]", "[nl]", "[nl0]", "[nl4]")))
+
+    def set_spacing(self):
+        fonts = ("[/sc]", "[fo1]", "[fo2]", "[fo3]", "[fo]")
+        return self.rng.choice(fonts if self.sign.char_width else fonts + ("[sc0]", "[sc1]", "[sc7]"))
+
+    def other_just(self):
+        return self.just(self.rng.choice((self.line_just, 2, 3, 4)))
+
+    def message(self):
+        rng = self.rng
+        self.page, self.line, self.line_just = self.sign.just_page, 0, self.sign.just_line
+        self.last = (0, 0, 0)
+        ways = (self.span, self.other_just, self.turn, self.page_on, self.new_line, self.set_spacing)
+        weights = rng.choice(((50, 15, 10, 3, 12, 10), (60, 25, 5, 0, 5, 5), (50, 5, 25, 1, 19, 0), (85, 5, 3, 1, 5, 1)))
+        count = rng.choice((4, 10, 25, 60, 150))
+        parts = [way() for way in rng.choices(ways, weights, k=count)]
+        if rng.random() < 0.05:
+            parts.insert(rng.randint(0, count), rng.choice(("Z", "[fo9]A", "[tr1,1,0,0]", "[np]", "[tr1,1,9,9]")))
+        return "".join(parts).encode()[:2048]

@@ -182,6 +182,19 @@ def wide_sign(rng):
     return SignPlan(*size, 0, char_height, 1, rng.choice((2, 3, 4)), rng.choice((2, 3, 4)), 30, rng.choice((0, 5)), ALL_NINE, fonts)
 
 
+def roomy_sign(rng):
+    """A sign on which many spans and lines fit, with three fonts of different heights and spacings."""
+    fonts = []
+    for number in (1, 2, 3):
+        height = rng.randint(1, 9)
+        widths = [(code, rng.choice((0, 1, 2, 3, 5))) for code in (65, 66, 91, 93)]
+        letters = [(code, width, bytes((width * height + 7) // 8)) for code, width in widths]
+        fonts.append(FontPlan(number, height, rng.choice((0, 1, 2, 5)), rng.choice((0, 1, 3)), letters))
+    size = rng.choice(((4096, 2000), (1024, 600), (1024, 600), (200, 100)))
+    cell = rng.choice((0, 0, 0, 0, 1, 1, 1, 2))
+    return SignPlan(*size, cell, rng.choice((0, 0, 1)), 1, rng.choice((2, 3, 4)), rng.choice((2, 2, 3)), 30, 0, ALL_NINE, fonts)
+
+
 def full_size_file(rng, size=65535):
     """A right sign file of exactly this many bytes."""
     data = record(1, SignPlan(50, 24, 0, 0, 1, 2, 2, 30, 0, ALL_NINE, []).configuration())
