@@ -103,7 +103,8 @@ module _ {c : Config} {q : Rect} {rows : List ℕ} {n : ℕ} {at : ℕ} where
 
 -- ---- `mark_group`: the rows of the group before the last k are marked, and sum is what stands before number p
 
-pub record Marking (c : Config) (q : Rect) (rows : List ℕ) (n : ℕ) (out₀ : List ℕ) (at : ℕ) (heads : List ℕ) (r : Row) (total : ℕ) (table out : List ℕ) (p sum k : ℕ) : Type 0 where
+pub record Marking (c : Config) (q : Rect) (rows : List ℕ) (n : ℕ) (out₀ : List ℕ) (at : ℕ) (heads : List ℕ) (r : Row) (total : ℕ)
+    (table out : List ℕ) (p sum k : ℕ) : Type 0 where
   pub asked : GroupAsked c q rows n out at heads r total table
   pub to : CrossedTo c q rows n out₀ at heads out
   pub walk : Walk rows n r k
@@ -165,7 +166,11 @@ module _ {c : Config} {q : Rect} {rows : List ℕ} {n : ℕ} {out₀ : List ℕ}
       row-crossed =
           let x : sum′ ≡ own-sums .before = er ∙ sym before-is in
           let y : total - sum′ ≡ own-sums .after = omega (arith, total-is) in
-          record { fine = sym (alike .fault) ∙ z .asked .fine; wide = omega (arith, total-is, z .asked .wide); is = ap (λ (a : ℕ). acrossAt c q e a (total - sum′)) x ∙ ap (acrossAt c q e (own-sums .before)) y }
+          record {
+            fine = sym (alike .fault) ∙ z .asked .fine;
+            wide = omega (arith, total-is, z .asked .wide);
+            is = ap (λ (a : ℕ). acrossAt c q e a (total - sum′)) x ∙ ap (acrossAt c q e (own-sums .before)) y;
+          }
 
       pub mark-on : {out′ : List ℕ} → CellPut out (at + (n - k)) 1 (acrossAt c q e sum′ (total - sum′) + 1) out′
           → Marking c q rows n out₀ at heads r total table out′ s sum′ k′
@@ -181,10 +186,6 @@ module _ {c : Config} {q : Rect} {rows : List ℕ} {n : ℕ} {out₀ : List ℕ}
             walk = walk-on (z .asked .ready .chained) (z .walk) more ek;
             reached = er;
           }
-
-pub mark-end : {c : Config} {q : Rect} {rows : List ℕ} {n : ℕ} {out₀ : List ℕ} {at : ℕ} {heads : List ℕ} {r : Row} {total : ℕ} {table out : List ℕ} {p sum k : ℕ}
-    → Marking c q rows n out₀ at heads r total table out p sum k → CrossedTo c q rows n out₀ at heads out
-mark-end z = z .to
 
 -- ---- `mark_others`
 
@@ -221,7 +222,8 @@ across-fits : (q : Rect) (o : Sums) (f : Fault) → f ≡ acrossFault q o → f 
 across-fits q o f e h = step (eqb (o .fault) 0) (ltb (q .width) (o .before + o .after)) refl refl (ap (λ (x : Fault). x .number) (sym e) ∙ h)
   where
     step : (t u : Bool) → eqb (o .fault) 0 ≡ t → ltb (q .width) (o .before + o .after) ≡ u
-        → pick {A = Fault} t (pick u (record { number = 13; detail = 0 }) (record { number = 0; detail = 0 })) (record { number = o .fault; detail = o .detail }) .number ≡ 0
+        → pick {A = Fault} t (pick u (record { number = 13; detail = 0 }) (record { number = 0; detail = 0 }))
+        (record { number = o .fault; detail = o .detail }) .number ≡ 0
         → (o .fault ≡ 0) × (o .before + o .after ≤ q .width)
     step true true k l g = absurd (omega arith)
     step true false k l g = (eqb-true (o .fault) 0 k, ltb-false (q .width) (o .before + o .after) l)
@@ -261,7 +263,8 @@ module _ {c : Config} {q : Rect} {rows : List ℕ} {n : ℕ} {out : List ℕ} {a
         pub others-asks : OthersAsked c q rows n out₁ at heads r o
         others-asks = record { ready = crossed-mark (h .0) (h .1) first-crossed p .ready; sums = so; fine = fits .0; wide = fits .1 }
 
-        pub group-done : {out₂ : List ℕ} → CrossedTo c q rows n out₁ at heads out₂ → GroupPlaced c q rows n out at heads i out₂ (record { number = 0; detail = 0 })
+        pub group-done : {out₂ : List ℕ} → CrossedTo c q rows n out₁ at heads out₂
+            → GroupPlaced c q rows n out at heads i out₂ (record { number = 0; detail = 0 })
         group-done d =
             record {
               to = crossed-then (crossed-mark (h .0) (h .1) first-crossed p) d;
@@ -285,7 +288,8 @@ pub cross-start : {c : Config} {q : Rect} {rows : List ℕ} {n : ℕ} {out : Lis
     → Crossing c q rows n out at heads out 0
 cross-start h = record { to = crossed-same h; within = omega arith; done = λ j k. absurd (omega arith) }
 
-module _ {c : Config} {q : Rect} {rows : List ℕ} {n : ℕ} {out₀ : List ℕ} {at : ℕ} {heads out : List ℕ} {i : ℕ} (z : Crossing c q rows n out₀ at heads out i) where
+module _ {c : Config} {q : Rect} {rows : List ℕ} {n : ℕ} {out₀ : List ℕ} {at : ℕ} {heads out : List ℕ} {i : ℕ}
+    (z : Crossing c q rows n out₀ at heads out i) where
   pub cross-asks : i < n → Ready c q rows n out at heads × (i < n)
   cross-asks h = (z .to .ready, h)
 

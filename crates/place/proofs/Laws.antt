@@ -36,7 +36,9 @@ use Rattle.lines.proofs.Offsets.{HeightsOf, foot-fits, heights-are}
 use Rattle.place.specs.declared.Across.{Across}
 use Rattle.place.specs.declared.Placed.{Placed}
 use Rattle.place.specs.declared.Placed.the-variants.{At, Refused}
-use Rattle.place.specs.Placed.{goesBackFrom, backRows, standsAt, recordBy, refusalOf, faultAt, baseWith, recordWith, faultWith, placedBy, placedWith, acrossFault, acrossAt, Crossed, SpanAsked, SpanPlaced, aboveAt, belowAt, recordAt, spanFaultAt, rowsFault, rowsRecords, Placeable, LinesMade, RowByRow, PassPlaced}
+use Rattle.place.specs.Placed.{goesBackFrom, backRows, standsAt, recordBy, refusalOf, faultAt, baseWith, recordWith, faultWith}
+use Rattle.place.specs.Placed.{placedBy, placedWith, acrossFault, acrossAt, Crossed, SpanAsked, SpanPlaced, aboveAt, belowAt}
+use Rattle.place.specs.Placed.{recordAt, spanFaultAt, rowsFault, rowsRecords, Placeable, LinesMade, RowByRow, PassPlaced}
 use Rattle.place.specs.Groups.{markAt, Marked, Ready, PlacedAcross, DownAsked, PlacedDown, stoppedAt}
 use Rattle.place.proofs.Groups.{marked-as}
 
@@ -174,7 +176,8 @@ module _ (c : Config) (q : Rect) (r : Row) (o : Sums) where
       step : (t u : Bool) → eqb (o .fault) 0 ≡ t → ltb (q .width) (o .before + o .after) ≡ u
           → f ≡ pick t (pick u (record { number = 13; detail = 0 }) (record { number = 0; detail = 0 })) (record { number = o .fault; detail = o .detail })
           → orElse (faultAt r (faultOf (o .fault) (o .detail))) (orElse (unless (leb (o .before + o .after) (q .width)) (refusalOf r 13 0))
-          (orElse (faultAt r d) (orElse (unless (leb (a + b) (q .height)) (refusalOf r 13 0)) (unless (leb (r .height) (baseWith c q r o a b)) (refusalOf r 14 0)))))
+          (orElse (faultAt r d) (orElse (unless (leb (a + b) (q .height)) (refusalOf r 13 0))
+          (unless (leb (r .height) (baseWith c q r o a b)) (refusalOf r 14 0)))))
           ≡ some (refusalOf r (f .number) (f .detail))
       step true true k l g =
           rw g
@@ -294,7 +297,8 @@ pub record Placing (c : Config) (q : Rect) (rows : List ℕ) (n : ℕ) (out₀ :
   pub few : m ≤ n
   pub within : i ≤ m
   pub lines : PageHeights (c .«char_height») rows n (page .just) table page
-  pub faults : firstFault (spanFaultAt c q (rowsOf rows n)) (cells (rowAt rows) i (m - i)) ≡ firstFault (spanFaultAt c q (rowsOf rows n)) (cells (rowAt rows) 0 m)
+  pub faults : firstFault (spanFaultAt c q (rowsOf rows n)) (cells (rowAt rows) i (m - i))
+      ≡ firstFault (spanFaultAt c q (rowsOf rows n)) (cells (rowAt rows) 0 m)
   pub records : spansOf out (at + i) ++ map (recordAt c q (rowsOf rows n)) (cells (rowAt rows) i (m - i))
       ≡ spansOf out₀ at ++ map (recordAt c q (rowsOf rows n)) (cells (rowAt rows) 0 m)
   pub marked : (j : ℕ) → i ≤ j → j < m → Marked c q rows n out at j
@@ -445,7 +449,9 @@ rows-ready {n = n} {at = at} {out₁ = out₁} a h =
       across = a .across;
       told = λ j p k.
           let e : n - suc (n - suc j) ≡ j = omega arith in
-          absurd (let b : markAt out₁ at (n - suc (n - suc j)) ≡ 0 = h .blank (n - suc j) (omega arith) in let d : markAt out₁ at j ≡ 0 = rw e at b in omega arith);
+          let b : markAt out₁ at (n - suc (n - suc j)) ≡ 0 = h .blank (n - suc j) (omega arith) in
+          let d : markAt out₁ at j ≡ 0 = rw e at b in
+          absurd (omega arith);
     }
 
 module _ {c : Config} {q : Rect} {rows : List ℕ} {n : ℕ} {out : List ℕ} {at : ℕ} (asked : Placeable q rows n out at) {heads out₁ : List ℕ}
@@ -502,7 +508,8 @@ module _ {c : Config} {q : Rect} {rows : List ℕ} {n : ℕ} {out : List ℕ} {a
         across-stops c q (rowAt rows (a .count)) (sums (rowAt rows (a .count)) noneYet (rowsOf rows n)) (record { number = a .number; detail = a .detail })
         (x .stop k .1) (x .stop k .0) _ _ _
 
-    stop-fault : a .count < n → firstFault fault (cells (rowAt rows) (a .count) (n - a .count)) ≡ some (refusalOf (rowAt rows (a .count)) (a .number) (a .detail))
+    stop-fault : a .count < n → firstFault fault (cells (rowAt rows) (a .count) (n - a .count))
+        ≡ some (refusalOf (rowAt rows (a .count)) (a .number) (a .detail))
     stop-fault k =
         ap (firstFault fault) (cells-next (rowAt rows) (a .count) n k) ∙ sym (some-first _ (fault (rowAt rows (a .count))) _ (sym (stops-there k)))
 

@@ -55,7 +55,8 @@ pub record CrossedTo (c : Config) (q : Rect) (rows : List ℕ) (n : ℕ) (out : 
   pub same : length out′ ≡ length out
 
 -- the group of r has no fault, takes total and fits; the table tells what stands before each of its rows
-pub record GroupAsked (c : Config) (q : Rect) (rows : List ℕ) (n : ℕ) (out : List ℕ) (at : ℕ) (heads : List ℕ) (r : Row) (total : ℕ) (table : List ℕ) : Type 0 where
+pub record GroupAsked (c : Config) (q : Rect) (rows : List ℕ) (n : ℕ) (out : List ℕ) (at : ℕ) (heads : List ℕ) (r : Row) (total : ℕ)
+    (table : List ℕ) : Type 0 where
   pub ready : Ready c q rows n out at heads
   pub fine : sums r noneYet (rowsOf rows n) .fault ≡ 0
   pub is : total ≡ sums r noneYet (rowsOf rows n) .before + sums r noneYet (rowsOf rows n) .after
@@ -70,7 +71,8 @@ pub record OthersAsked (c : Config) (q : Rect) (rows : List ℕ) (n : ℕ) (out 
   pub wide : o .before + o .after ≤ q .width
 
 -- row i is placed across, or f is the refusal of its group
-pub record GroupPlaced (c : Config) (q : Rect) (rows : List ℕ) (n : ℕ) (out : List ℕ) (at : ℕ) (heads : List ℕ) (i : ℕ) (out′ : List ℕ) (f : Fault) : Type 0 where
+pub record GroupPlaced (c : Config) (q : Rect) (rows : List ℕ) (n : ℕ) (out : List ℕ) (at : ℕ) (heads : List ℕ) (i : ℕ) (out′ : List ℕ)
+    (f : Fault) : Type 0 where
   pub to : CrossedTo c q rows n out at heads out′
   pub good : f .number ≡ 0 → 0 < markAt out′ at i
   pub bad : (f .number ≡ 0 → ⊥) → f ≡ acrossFault q (sumsAt rows n i)

@@ -9,7 +9,8 @@ use native.Mathlib.Nat.{mod-eq-of-lt, div-add-mod, mul-suc, mul-le-mul-left}
 use native.Mathlib.Omega.{arith}
 use lib.Dec.{ltb, eqb}
 use lib.ListN.{length, getD, set, take, drop, length-append, length-set, drop-of-length-le}
-use lib.Seq.{getD-set-same, getD-set-other, length-take-le, drop-cons, take-at, drop-at, drop-append-le, drop-set-lt, drop-set-add, take-set-le, sets, length-sets, sets-eq}
+use lib.Seq.{getD-set-same, getD-set-other}
+use lib.Seq.{length-take-le, drop-cons, take-at, drop-at, drop-append-le, drop-set-lt, drop-set-add, take-set-le, sets, length-sets, sets-eq}
 use borrow.Author.Tests.{ltb-true, ltb-false}
 use Rattle.base.specs.Pick.{pick}
 use Rattle.layout.specs.declared.Span.{Span}

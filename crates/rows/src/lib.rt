@@ -4,7 +4,8 @@ ghost use Prim.Native.Nat.{_+_, _*_, _/_, _%_, _≤_, _<_};
 ghost use lib.ListN.{length};
 ghost use lib.Seq.{sets};
 ghost use Rattle.rows.specs.Measured.{earlierOf};
-ghost use Rattle.rows.specs.Rows.{rowWidth, RowRoom, numbersOf, rowWith, rowAt, ByteFields, RowPut, spanWidth, SpanRoom, spanFrom, spanAt, SpanPut, cellAt, CellPut};
+ghost use Rattle.rows.specs.Rows.{rowWidth, RowRoom, numbersOf, rowWith, rowAt, ByteFields, RowPut};
+ghost use Rattle.rows.specs.Rows.{spanWidth, SpanRoom, spanFrom, spanAt, SpanPut, cellAt, CellPut};
 use layout::Span;
 
 // An entry of a pass with its measures. kind to code: as in its record. just_page to span: of the state it was read in.

@@ -71,7 +71,7 @@ pub record Linking (rows : List ℕ) (n : ℕ) (out₀ : List ℕ) (at : ℕ) (o
   pub spans : spansOf out at ≡ spansOf out₀ at
   pub same : length out ≡ length out₀
 
-nil-at : (n j : ℕ) → getD (replicate {A = ℕ} n 0) j 0 ≡ 0
+pub nil-at : (n j : ℕ) → getD (replicate {A = ℕ} n 0) j 0 ≡ 0
 nil-at zero j = refl
 nil-at (suc n) zero = refl
 nil-at (suc n) (suc j) = nil-at n j
@@ -128,7 +128,8 @@ module _ {rows : List ℕ} {n : ℕ} {out₀ : List ℕ} {at : ℕ} {out heads :
           (cell-stays q (at + (n - k - 1)) 0 (λ x. omega arith) ∙ cell-put p (omega arith) room₁ ∙ z .linked .firsts b hb)
       step false s =
           let d : m ≡ k → ⊥ = eqb-false m k s in
-          cell-stays q (at + (n - suc m)) 0 (λ x. omega arith) ∙ cell-stays p (at + (n - suc m)) 0 (λ x. omega (arith, d)) ∙ z .linked .nexts m (omega (arith, d))
+          cell-stays q (at + (n - suc m)) 0 (λ x. omega arith) ∙ cell-stays p (at + (n - suc m)) 0 (λ x. omega (arith, d))
+          ∙ z .linked .nexts m (omega (arith, d))
 
   blank-on : (m : ℕ) → m < suc k → cellAt out₂ (at + (n - suc m)) 1 ≡ 0
   blank-on m h = step (eqb m k) refl

@@ -141,7 +141,9 @@ module _ (m : Meter) (p : RowTells m) where
       step : (t : Bool)
           → ((p : Sums) (x : Option Entry) → Follows p x → Agree (r .state .span) p x (select (same r) es) (sums (rowOf m r) p (map (rowOf m) es)))
           → Agree (r .state .span) o q (keep t e (select (same r) es)) (sums (rowOf m r) (pick t (joined (r .state .span) o (rowOf m e)) o) (map (rowOf m) es))
-      step true ih = agree-join (r .state .span) o q e (select (same r) es) _ k (ih (joined (r .state .span) o (rowOf m e)) (some e) (ne-eqb (suc (o .count)) 0 (λ x. omega arith), refl))
+      step true ih =
+          agree-join (r .state .span) o q e (select (same r) es) _ k
+          (ih (joined (r .state .span) o (rowOf m e)) (some e) (ne-eqb (suc (o .count)) 0 (λ x. omega arith), refl))
       step false ih = ih o q k
 
   -- what stands before a span in its group, what from there on, and the group's first fault

@@ -17,7 +17,7 @@ use Rattle.sums.specs.Sums.{sameRow, gapOf, joined, advanced, sums, none
 use Rattle.sums.specs.Chain.{untilLast, Chained, Walk}
 use Rattle.sums.specs.Table.{upto, Small, Added, AddedRow, Tells, TableOf, Gathered, Room, Entered}
 use Rattle.sums.proofs.Groups.{line-is, same-as, alike-gap, alike-all, sums-last, advance-yes, advance-no}
-use Rattle.sums.proofs.Chain.{walk-start, walk-begun, walk-less, walk-on, walked, walk-done}
+use Rattle.sums.proofs.Chain.{nil-at, walk-start, walk-begun, walk-less, walk-on, walked, walk-done}
 
 -- ---- `add_at`, `add_row`
 
@@ -108,11 +108,6 @@ module _ (r e : Row) {t : Bool} (f : t ≡ sameRow r e) (l : List ℕ) (o : Sums
       }
 
 -- ---- `gather`: the rows before the last k are added up
-
-nil-at : (n j : ℕ) → getD (replicate {A = ℕ} n 0) j 0 ≡ 0
-nil-at zero j = refl
-nil-at (suc n) zero = refl
-nil-at (suc n) (suc j) = nil-at n j
 
 nil-sums : (k : ℕ) → upto (replicate {A = ℕ} 257 0) k ≡ 0
 nil-sums zero = refl

@@ -1,7 +1,7 @@
 use native.Mathlib.Omega.{arith}
 use mathlib.Core.Path.{_∙_}
 use borrow.Author.Needs.{needs}
-use Rattle.place.proofs.Groups.{Marking, mark-start, mark-less, mark-skip, mark-reach, mark-within, mark-asks, mark-on, mark-end}
+use Rattle.place.proofs.Groups.{Marking, mark-start, mark-less, mark-skip, mark-reach, mark-within, mark-asks, mark-on}
 use Rattle.place.proofs.mark_group.Statement.{statement}
 use Rattle.place.proofs.mark_group.Tie as tie
 

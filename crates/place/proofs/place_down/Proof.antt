@@ -49,8 +49,10 @@ place-down-spec =
     placing-start (s .pre) (p .page-lines .ensures))  -- loop-holds
     (λ c κs.
     let t : Turned = search in
-    let l : Looped = search in
-    (omega (arith, l .loop .inv .asked .few, l .loop .inv .few, t .loop-test .taken), omega (arith, l .loop .inv .asked .rowed, l .loop .inv .few, t .loop-test .taken)))  -- row-at-requires
+    let l : Looped = search in (
+      omega (arith, l .loop .inv .asked .few, l .loop .inv .few, t .loop-test .taken),
+      omega (arith, l .loop .inv .asked .rowed, l .loop .inv .few, t .loop-test .taken),
+    ))  -- row-at-requires
     (λ c. search needs)  -- slice-aggregate-lines-for
     (λ c κs. let l : Looped = search in lines-made (l .loop .inv))  -- lines-for-requires
     (λ c. search needs)  -- slice-aggregate-offset-vert

@@ -21,7 +21,8 @@ place-span-spec =
     let e1 : tie.Else1 = search in
     let s : tie.Start = search in
     λ o k.
-    too-high (s .args .c) (s .args .rect) (s .args .r) o (s .args .v) _ (k .fine) (k .wide) (e1 .if1 .left) (t .if2 .taken) (c .refused2 .ensures))  -- returns-2
+    too-high (s .args .c) (s .args .rect) (s .args .r) o (s .args .v) _ (k .fine) (k .wide) (e1 .if1 .left) (t .if2 .taken)
+    (c .refused2 .ensures))  -- returns-2
     (λ c κs. search needs)  -- stand-requires
     (λ c κs. search needs)  -- refused-requires-3
     (λ c.

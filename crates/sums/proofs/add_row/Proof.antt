@@ -17,7 +17,10 @@ add-row-spec =
     (λ c κs.
     let a : tie.After-add-at = search in
     let x : tie.After-byte-index = search in
-    let s : tie.Start = search in
-    (omega (arith, x .byte-index .ensures .1), search needs, small-more (a .add-at .ensures .small 17592186044416 (s .pre .1)) (omega (arith, s .pre .0))))  -- add-at-requires-2
+    let s : tie.Start = search in (
+      omega (arith, x .byte-index .ensures .1),
+      search needs,
+      small-more (a .add-at .ensures .small 17592186044416 (s .pre .1)) (omega (arith, s .pre .0)),
+    ))  -- add-at-requires-2
     (λ c. search needs)  -- same-length
     (λ c. search adds-row))  -- returns

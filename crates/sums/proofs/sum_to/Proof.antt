@@ -20,7 +20,10 @@ sum-to-spec =
     (λ c. search needs)  -- add-j
     (λ c. search needs)  -- mul-sum
     (λ c. search needs)  -- shared-slice-read-sum
-    (λ c. let t : tie.In-loop Inv-loop μ-loop = search in let l : tie.At-loop Inv-loop μ-loop = search in omega (arith, reach-fits (l .loop .inv) (t .loop-test .taken)))  -- add-sum
+    (λ c.
+    let t : tie.In-loop Inv-loop μ-loop = search in
+    let l : tie.At-loop Inv-loop μ-loop = search in
+    omega (arith, reach-fits (l .loop .inv) (t .loop-test .taken)))  -- add-sum
     (λ c. search needs)  -- loop-less
     (λ c. search reach-on)  -- loop-again
     (λ c. search reach-end))  -- returns
