@@ -194,7 +194,7 @@ fn mark_group(
     }
 }
 
-// The other rows of the group of r, whose sums are o.
+// The other rows of the group of r, whose sums are o. Of up to three each comes by itself: the table takes as many walks.
 fn mark_others(
     c: Config,
     rect: Rect,
@@ -209,7 +209,7 @@ fn mark_others(
     requires { ⌜ OthersAsked c rect (now rows) n (now out) at (now heads) r o ⌝ }
     ensures { λ _. ⌜ CrossedTo c rect (now (rows .entry)) n (now (out .entry)) at (now (heads .entry)) (now (out .exit)) ⌝ }
 {
-    if o.count == 1 {
+    if o.count < 4 {
         return;
     }
     let mut table = [0u64; 257];
