@@ -82,7 +82,7 @@ counted-page (off d) lent = refl
 counted-page (refused x) lent = refl
 
 -- what a call's answer counts is what it wrote
-counted-is : (c : ℕ) (l : List Page) (n : ℕ) (lent : List Span)
+pub counted-is : (c : ℕ) (l : List Page) (n : ℕ) (lent : List Span)
     → countedRecords ((numbered c l n) .answer) ((numbered c l n) .written ++ drop (length ((numbered c l n) .written)) lent) ≡ (numbered c l n) .written
 counted-is c [] n lent = refl
 counted-is c (p ∷ l) zero lent = counted-page p lent

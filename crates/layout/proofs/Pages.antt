@@ -183,7 +183,7 @@ module _ (s : Board) where
 
 -- ---- a pass without a fault
 
-first-none : {A : Type 0} {B : Type 0} (f : A → Option B) {e : A} {l : List A} → In e l → firstFault f l ≡ none → f e ≡ none
+pub first-none : {A : Type 0} {B : Type 0} (f : A → Option B) {e : A} {l : List A} → In e l → firstFault f l ≡ none → f e ≡ none
 first-none f here q = (or-none _ _ q) .0
 first-none f (there i) q = first-none f i ((or-none _ _ q) .1)
 
@@ -242,7 +242,7 @@ module _ (c : Config) (fs : List Font) (msg : List ℕ) where
   unfolding spanFault
   meter-fault r es e i q = first-none (s .meter .fault) (in-select (same e) (same-refl e) i) (fault-none s r es e _ ((or-none _ _ q) .0))
 
-  measured : (r : Rect) (es : List Entry) (e : Entry) → In e es → spanFault s r es e ≡ none → Measured msg fs e (recordOf s r es e)
+  pub measured : (r : Rect) (es : List Entry) (e : Entry) → In e es → spanFault s r es e ≡ none → Measured msg fs e (recordOf s r es e)
   unfolding recordOf boardOf meterOf
   measured r es e i q = measured-in msg fs e (recordOf s r es e) (fontNumbered (e .state .font) fs) refl (meter-fault r es e i q) refl refl
 

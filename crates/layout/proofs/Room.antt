@@ -139,10 +139,10 @@ unchanged file msg n lent x e =
     ap (λ (w : List Span). w ++ drop (length w) lent) (result-quiet file msg n (length lent) x e)
 
 -- an on answer counts what it wrote
-abbrev Counts : Result → Type 0
+abbrev pub Counts : Result → Type 0
 Counts r = (d k : ℕ) → r .answer ≡ On d k → k ≡ length (r .written)
 
-numbered-counts : (c : ℕ) (l : List Page) (n : ℕ) → Counts (numbered c l n)
+pub numbered-counts : (c : ℕ) (l : List Page) (n : ℕ) → Counts (numbered c l n)
 numbered-counts c [] n d k e = absurd (let z : _≡_ {A = ℕ} 0 1 = cc in omega arith)
 numbered-counts c (on a rs ∷ l) zero d k e = cc
 numbered-counts c (off a ∷ l) zero d k e = absurd (let z : _≡_ {A = ℕ} 0 1 = cc in omega arith)

@@ -6,6 +6,7 @@ use Rattle.layout.specs.Boards.{boards}
 use Rattle.layout.proofs.Checks.{answer-on}
 use Rattle.layout.proofs.Calls.{demand3}
 use Rattle.layout.proofs.Bounds.{bounded}
+use Rattle.counts.proofs.Page.{page-counts}
 use Rattle.sentence.proofs.Recovers.{sentenced, worded}
 use Rattle.promises.specs.Promises.{Promises}
 
@@ -21,4 +22,5 @@ promises =
       sentences = sentenced;
       words = worded;
       looked-up = counts;
+      page-counted = page-counts;
     }

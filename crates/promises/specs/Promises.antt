@@ -15,6 +15,7 @@ use Rattle.layout.specs.Listing.{listing, after}
 use Rattle.layout.specs.Demand.{Whole, Demand3}
 use Rattle.layout.specs.Bounds.{Bounded}
 use Rattle.layout.specs.Boards.{Boards}
+use Rattle.counts.specs.Page.{PageCounts}
 use Rattle.sentence.specs.Recovered.{Sentenced, Worded}
 
 pub record Promises : Type 0 where
@@ -42,3 +43,7 @@ pub record Promises : Type 0 where
   -- A2, of a font's characters and the code points of a text or [hc]: the count of characters looked up is "equal to the text's code points unless it
   -- refuses", and then that of those up to and with the missing one. By their contracts `text_width` and the measures of meter answer this count
   pub looked-up : (chs : List Character) (spacing : ℕ) (l : List ℕ) → Counts chs spacing l
+  -- A9, of every call: "The result carries two counts: the characters that its measures looked up, equal to the page's printed characters, and the spans
+  -- placed, equal to its records"; where the page is refused "both counts are 0", and for off and end. By its contract `place` (crates/listing/src/lib.rt)
+  -- answers `placing` and leaves `after`
+  pub page-counted : (file msg : List ℕ) (n : ℕ) (lent : List Span) → PageCounts file msg n lent
