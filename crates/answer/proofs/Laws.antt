@@ -31,14 +31,16 @@ use Rattle.layout.specs.Listing.{Page, on, off, refused as refusedPage, pages, 
 use Rattle.layout.proofs.Room.{result-room}
 use Rattle.rows.specs.Rows.{spansOf}
 use Rattle.rows.proofs.Laws.{spans-length}
-use Rattle.meter.specs.Gauges.{fontsIn, meterIn}
+use Rattle.counts.specs.declared.Placed.{Placed}
+use Rattle.counts.specs.Placing.{charsLooked, fontsIn, withCounts}
+use Rattle.meter.specs.Gauges.{meterIn}
 use Rattle.pages.specs.declared.Pages.{Pages}
 use Rattle.pages.specs.declared.PageShown.{PageShown}
 use Rattle.pages.specs.declared.NextPage.{NextPage}
 use Rattle.pages.specs.declared.NextPage.the-variants.{Page as NextShown, End as NextNone, Refused as NextRefused}
-use Rattle.pages.specs.Pages.{boardIn, Ready, firstOf, todo, shownPage, nextTold, InMessage, weight, IfShown, Advances, NextAsked, NextRead}
+use Rattle.pages.specs.Pages.{boardIn, Ready, lookedFor, firstOf, todo, shownPage, nextTold, InMessage, weight, IfShown, Advances, NextAsked, NextRead}
 use Rattle.pages.proofs.Answers.{pages-todo, first-in}
-use Rattle.answer.specs.Answer.{writtenBy, told, answerBy, Answerable, countOf, RecordRoom, Numbered, Listable, Computed, Counted}
+use Rattle.answer.specs.Answer.{writtenBy, told, bare, onBy, placedBy, Answerable, countOf, RecordRoom, CountsTold, Numbered, Listable, Computed, Answered, Counted, PlacedAs}
 
 -- ---- an answer of a page
 
@@ -53,25 +55,51 @@ shown-past : (b : Bool) (d : ℕ) (rs : List Span) (a : Result) → past (pick b
 shown-past true d rs a = refl
 shown-past false d rs a = refl
 
-shown-few : (b : Bool) (d n all : ℕ) → n ≤ all → countOf (pick b (On d n) (Off d)) ≤ all
-shown-few true d n all h = h
-shown-few false d n all h = omega arith
+-- what an answer of a page says, on or off: b
+module _ (b : Bool) (x : PageShown) where
+  abbrev so : Placed
+  so = pick b (onBy x) (bare (Off (x .duration)))
+
+  shown-answer : so .answer ≡ pick b (On (x .duration) (x .count)) (Off (x .duration))
+  shown-answer = go b
+    where
+      go : (t : Bool) → (pick t (onBy x) (bare (Off (x .duration)))) .answer ≡ pick t (On (x .duration) (x .count)) (Off (x .duration))
+      go true = refl
+      go false = refl
+
+  shown-few : (all : ℕ) → x .count ≤ all → countOf (so .answer) ≤ all
+  shown-few all h = go b
+    where
+      go : (t : Bool) → countOf ((pick t (onBy x) (bare (Off (x .duration)))) .answer) ≤ all
+      go true = h
+      go false = omega arith
+
+  shown-counts : (file msg l : List ℕ) → x .looked ≡ lookedFor file msg l (x .count) → CountsTold file msg l so
+  shown-counts file msg l h = go b
+    where
+      go : (t : Bool) → CountsTold file msg l (pick t (onBy x) (bare (Off (x .duration))))
+      go true = record { looked = h; spans = refl }
+      go false = record { looked = refl; spans = refl }
 
 module _ {n : NextPage} where
   pub count-fits : {count : ℕ} {p : Pages} {x : PageShown} → Answerable n count → n ≡ NextShown p x → Val.Fits w16 (x .count)
-  count-fits h q = omega (arith, subst (IfShown (λ p x. x .count < 65536)) q (h .countable))
+  count-fits h q = omega (arith, (subst (IfShown (λ p x. (x .count < 65536) × (x .looked < 65536))) q (h .countable)) .0)
 
-  pub answer-on : (count : ℕ) {p : Pages} {x : PageShown} → n ≡ NextShown p x → x .on ≡ true → On (x .duration) (x .count) ≡ answerBy n count
+  pub looked-fits : {count : ℕ} {p : Pages} {x : PageShown} → Answerable n count → n ≡ NextShown p x → Val.Fits w16 (x .looked)
+  looked-fits h q = omega (arith, (subst (IfShown (λ p x. (x .count < 65536) × (x .looked < 65536))) q (h .countable)) .1)
+
+  pub answer-on : (count : ℕ) {p : Pages} {x : PageShown} → n ≡ NextShown p x → x .on ≡ true → onBy x ≡ placedBy n count
   answer-on count q e = rw (q, e)
 
-  pub answer-off : (count : ℕ) {p : Pages} {x : PageShown} → n ≡ NextShown p x → x .on ≡ false → Off (x .duration) ≡ answerBy n count
-  answer-off count q e = rw (q, e)
+  pub answer-off : (count : ℕ) {p : Pages} {x : PageShown} {r : Placed} → n ≡ NextShown p x → x .on ≡ false → r ≡ bare (Off (x .duration))
+      → r ≡ placedBy n count
+  answer-off count q e b = rw (q, e) b
 
-  pub answer-end : (count : ℕ) → n ≡ NextNone → End count ≡ answerBy n count
-  answer-end count q = rw q
+  pub answer-end : (count : ℕ) {r : Placed} → n ≡ NextNone → r ≡ bare (End count) → r ≡ placedBy n count
+  answer-end count q b = rw q b
 
-  pub answer-refused : (count : ℕ) {x : Refusal} → n ≡ NextRefused x → Refused x ≡ answerBy n count
-  answer-refused count q = rw q
+  pub answer-refused : (count : ℕ) {x : Refusal} {r : Placed} → n ≡ NextRefused x → r ≡ bare (Refused x) → r ≡ placedBy n count
+  answer-refused count q b = rw q b
 
 -- ---- the loop
 
@@ -124,7 +152,7 @@ module _ {file : List ℕ} {table : SignFile} {msg : List ℕ} {number : ℕ} {r
 
   -- t is the next answer
   module _ {rows′ out′ : List ℕ} {t : NextPage} (read : NextRead file table msg p rows out rows′ out′ (p .«page_state») t) where
-    abbrev Tells : Answer → Type 0
+    abbrev Tells : Placed → Type 0
     Tells = Numbered file table msg number out₀ out′
 
     pub numbered-rowed : length rows′ ≡ length rows₀
@@ -138,14 +166,14 @@ module _ {file : List ℕ} {table : SignFile} {msg : List ℕ} {number : ℕ} {r
 
     -- what is said of an answer that is shown
     abbrev Goes : NextPage → Type 0
-    Goes = IfShown (Advances (table .config) (length msg) (p .at) (weight (p .«page_state»)))
+    Goes = IfShown (Advances file msg out′ (table .config) (p .at) (weight (p .«page_state»)))
 
     goes : {u : NextPage} → t ≡ u → Goes u
     goes q = subst Goes q (read .next)
 
     pub numbered-next : {q : Pages} {x : PageShown} → t ≡ NextShown q x → i < number → Stands file table msg number rows₀ out₀ rows′ out′ q (i + 1)
     numbered-next {q} {x} c h =
-        let g : Advances (table .config) (length msg) (p .at) (weight (p .«page_state»)) q x = goes c in
+        let g : Advances file msg out′ (table .config) (p .at) (weight (p .«page_state»)) q x = goes c in
         record {
           ready = z .ready;
           stands = g .stands;
@@ -159,36 +187,52 @@ module _ {file : List ℕ} {table : SignFile} {msg : List ℕ} {number : ℕ} {r
               ∙ sym (less i (number - i) (number - suc i) (shownPage out′ x) (todo s msg q) (omega arith)) ∙ here c);
         }
 
-    pub numbered-end : t ≡ NextNone → Tells (End i)
-    numbered-end c = record { ends = here c; few = omega arith; room = numbered-room }
+    pub numbered-end : {r : Placed} → t ≡ NextNone → r ≡ bare (End i) → Tells r
+    numbered-end c d =
+        subst Tells (sym d) (record { ends = here c; counts = record { looked = refl; spans = refl }; few = omega arith; room = numbered-room })
 
-    pub numbered-refused : {x : Refusal} → t ≡ NextRefused x → Tells (Refused x)
-    numbered-refused {x} c = record { ends = go (number - i) ∙ here c; few = omega arith; room = numbered-room }
+    pub numbered-refused : {x : Refusal} {r : Placed} → t ≡ NextRefused x → r ≡ bare (Refused x) → Tells r
+    numbered-refused {x} c d =
+        subst Tells (sym d)
+        (record { ends = go (number - i) ∙ here c; counts = record { looked = refl; spans = refl }; few = omega arith; room = numbered-room })
       where
         go : (j : ℕ) → told (Refused x) out′ ≡ numbered i (refusedPage x ∷ []) j
         go zero = refl
         go (suc j) = refl
 
-    countable : (u : NextPage) → Goes u → IfShown (λ q x. x .count < 65536) u
-    countable (NextShown q x) g = omega (arith, g .few, z .ready .small)
+    countable : (u : NextPage) → Goes u → IfShown (λ q x. (x .count < 65536) × (x .looked < 65536)) u
+    countable (NextShown q x) g = (omega (arith, g .few, z .ready .small), omega (arith, g .short, z .ready .small))
     countable NextNone g = tt
     countable (NextRefused x) g = tt
 
     pub next-answerable : Answerable t i
     next-answerable = record { few = count-small; countable = countable t (read .next) }
 
-    asked : (j : ℕ) (u : NextPage) → j ≡ 0 → told (answerBy u i) out′ ≡ numbered i (nextTold s msg out′ u) j
-    asked j (NextShown q x) h = rw h (shown-said (x .on) (x .duration) (x .count) out′)
+    asked : (j : ℕ) (u : NextPage) → j ≡ 0 → told ((placedBy u i) .answer) out′ ≡ numbered i (nextTold s msg out′ u) j
+    asked j (NextShown q x) h =
+        ap (λ (a : Answer). told a out′) (shown-answer (x .on) x) ∙ rw h (shown-said (x .on) (x .duration) (x .count) out′)
     asked j NextNone h = refl
     asked j (NextRefused x) h = rw h
 
-    few : (u : NextPage) → Goes u → countOf (answerBy u i) ≤ length msg
-    few (NextShown q x) g = shown-few (x .on) (x .duration) (x .count) (length msg) (g .few)
+    few : (u : NextPage) → Goes u → countOf ((placedBy u i) .answer) ≤ length msg
+    few (NextShown q x) g = shown-few (x .on) x (length msg) (g .few)
     few NextNone g = omega arith
     few (NextRefused x) g = omega arith
 
-    pub numbered-asked : {r : Answer} → number ≤ i → r ≡ answerBy t i → Tells r
-    numbered-asked h c = subst Tells (sym c) (record { ends = asked (number - i) t (omega arith) ∙ here refl; few = few t (read .next); room = numbered-room })
+    counts : (u : NextPage) → Goes u → CountsTold file msg out′ (placedBy u i)
+    counts (NextShown q x) g = shown-counts (x .on) x file msg out′ (g .looked)
+    counts NextNone g = record { looked = refl; spans = refl }
+    counts (NextRefused x) g = record { looked = refl; spans = refl }
+
+    pub numbered-asked : {r : Placed} → number ≤ i → r ≡ placedBy t i → Tells r
+    numbered-asked h c =
+        subst Tells (sym c)
+        (record {
+          ends = asked (number - i) t (omega arith) ∙ here refl;
+          counts = counts t (read .next);
+          few = few t (read .next);
+          room = numbered-room;
+        })
 
 -- ---- the call
 
@@ -198,11 +242,14 @@ board-is file msg c fs q = ap (λ (x : Sign). record { config = c; meter = meter
 
 -- x is the answer of `admit`
 module _ (file msg : List ℕ) {x : Admitted} (e : x ≡ handed (admission file msg) (signFile file)) where
-  pub call-denied : {y : Refusal} → x .denied ≡ Some y → (n room : ℕ) (out : List ℕ) {r : Answer} → r ≡ Refused y → Computed file msg n room out out r
+  pub call-denied : {y : Refusal} → x .denied ≡ Some y → (n room : ℕ) (out : List ℕ) {r : Placed} → r ≡ bare (Refused y) → Answered file msg n room out out r
   unfolding result
   call-denied h n room out d =
-      subst (Computed file msg n room out out) (sym d)
-      (record { ends = ap (λ (a : Admission). resultOn a msg n room) (sym (denied-is file msg e h)); few = omega arith; long = refl })
+      subst (Answered file msg n room out out) (sym d)
+      (record {
+        computed = record { ends = ap (λ (a : Admission). resultOn a msg n room) (sym (denied-is file msg e h)); few = omega arith; long = refl };
+        counts = record { looked = refl; spans = refl };
+      })
 
   module _ (h : x .denied ≡ None) where
     pub call-listable : {out : List ℕ} → RecordRoom msg out → Listable file (x .table) msg out
@@ -220,16 +267,22 @@ module _ (file msg : List ℕ) {x : Admitted} (e : x ≡ handed (admission file 
           let after : Board → Result = λ y. pick (ltb room 1400) (said (Refused (refusal 4 0 0 0))) (numbered 0 (pages y (items msg)) n) in
           ap (λ (a : Admission). resultOn a msg n room) (o .is) ∙ sym (ap after (board-is file msg (x .table .config) (o .fs) (o .admits-it .sign)))
 
-      pub call-short : {r : Answer} → room < 1400 → r ≡ Refused (refusal 4 0 0 0) → Computed file msg n room out out r
+      pub call-short : {r : Placed} → room < 1400 → r ≡ bare (Refused (refusal 4 0 0 0)) → Answered file msg n room out out r
       call-short g d =
-          subst (Computed file msg n room out out) (sym d)
-          (record { ends = sym (behind ∙ rw (lt-ltb room 1400 g)); few = omega arith; long = refl })
+          subst (Answered file msg n room out out) (sym d)
+          (record {
+            computed = record { ends = sym (behind ∙ rw (lt-ltb room 1400 g)); few = omega arith; long = refl };
+            counts = record { looked = refl; spans = refl };
+          })
 
-      pub call-listed : {out′ : List ℕ} {r : Answer} → 1400 ≤ room → RecordRoom msg out → Numbered file (x .table) msg n out out′ r
-          → Computed file msg n room out out′ r
+      pub call-listed : {out′ : List ℕ} {r : Placed} → 1400 ≤ room → RecordRoom msg out → Numbered file (x .table) msg n out out′ r
+          → Answered file msg n room out out′ r
       call-listed g q d =
           let l : Listable file (x .table) msg out = call-listable q in
-          record { ends = d .ends ∙ sym (behind ∙ rw (le-ltb room 1400 g)); few = omega (arith, l .room, d .few); long = d .room }
+          record {
+            computed = record { ends = d .ends ∙ sym (behind ∙ rw (le-ltb room 1400 g)); few = omega (arith, l .room, d .few); long = d .room };
+            counts = d .counts;
+          }
 
 -- ---- the count of the records
 
@@ -264,3 +317,34 @@ module _ {file msg : List ℕ} {number room : ℕ} {out l : List ℕ} {a : Answe
         few = omega (arith, r .1, counted);
         long = omega (arith, h .few, h .long, c);
       }
+
+-- p is the answer with its counts
+module _ {file msg : List ℕ} {number room : ℕ} {out l : List ℕ} {p : Placed} (h : Answered file msg number room out l p) where
+  abbrev y : Result
+  y = result file msg number room
+
+  abbrev fs : List Font
+  fs = fontsIn (signFile file)
+
+  written-is : writtenBy (p .answer) l ≡ y .written
+  written-is = ap (λ (x : Result). x .written) (h .computed .ends)
+
+  answer-is : p .answer ≡ y .answer
+  answer-is = ap (λ (x : Result). x .answer) (h .computed .ends)
+
+  looked-is : p .looked ≡ charsLooked fs msg (y .written)
+  looked-is = h .counts .looked ∙ ap (charsLooked fs msg) written-is
+
+  spans-are : p .spans ≡ length (y .written)
+  spans-are = h .counts .spans ∙ sym (count-told (p .answer) l) ∙ ap length written-is
+
+  abbrev made : Answer → ℕ → ℕ → Placed
+  made x j k = record { answer = x; looked = j; spans = k }
+
+  same-placed : (q : Placed) → p .answer ≡ q .answer → p .looked ≡ q .looked → p .spans ≡ q .spans → p ≡ q
+  same-placed q a b d =
+      ap (λ (x : Answer). made x (p .looked) (p .spans)) a ∙ ap (λ (k : ℕ). made (q .answer) k (p .spans)) b ∙ ap (made (q .answer) (q .looked)) d
+
+  pub placed-as : PlacedAs file msg number room l (record { placed = p; count = p .spans })
+  placed-as =
+      record { placed = same-placed (withCounts fs msg y) answer-is looked-is spans-are; counted = counted-is (h .computed) (h .counts .spans) }

@@ -1,27 +1,44 @@
-// The computation of an answer: sign file, message, answer number and room give the answer, and its records as rows of numbers.
+// The computation of an answer: sign file, message, answer number and room give the answer with its counts, and its records as rows of numbers.
 ghost use mathlib.Core.Path.{_≡_};
 ghost use Rattle.pages.specs.Pages.{Ready};
-ghost use Rattle.answer.specs.Answer.{answerBy, Answerable, countOf, RecordRoom, Numbered, Listable, Computed, Counted};
+ghost use Rattle.answer.specs.Answer.{bare, placedBy, Answerable, countOf, RecordRoom, Numbered, Listable, Answered, Computed, Counted, PlacedAs};
+use counts::Placed;
 use layout::Answer;
 use pages::NextPage;
 use refusal::OptRefusal;
 use refusal::Refusal;
 use sign::SignFile;
 
+// An answer without records: both counts are 0.
+fn unplaced(answer: Answer) -> Placed
+    ensures { λ r. ⌜ r ≡ bare answer ⌝ }
+{
+    Placed {
+        answer,
+        looked: 0,
+        spans: 0,
+    }
+}
+
 // The answer that comes next, after count others.
-fn answer_of(n: NextPage, count: usize) -> Answer
+fn answer_of(n: NextPage, count: usize) -> Placed
     requires { ⌜ Answerable n count ⌝ }
-    ensures { λ r. ⌜ r ≡ answerBy n count ⌝ }
+    ensures { λ r. ⌜ r ≡ placedBy n count ⌝ }
 {
     match n {
         NextPage::Page(_, x) => {
             if x.on {
-                return Answer::On(x.duration, x.count as u16);
+                let spans = x.count as u16;
+                return Placed {
+                    answer: Answer::On(x.duration, spans),
+                    looked: x.looked as u16,
+                    spans,
+                };
             }
-            Answer::Off(x.duration)
+            unplaced(Answer::Off(x.duration))
         }
-        NextPage::End => Answer::End(count as u16),
-        NextPage::Refused(r) => Answer::Refused(r),
+        NextPage::End => unplaced(Answer::End(count as u16)),
+        NextPage::Refused(r) => unplaced(Answer::Refused(r)),
     }
 }
 
@@ -33,7 +50,7 @@ fn numbered(
     number: usize,
     rows: &mut [u16],
     out: &mut [u16],
-) -> Answer
+) -> Placed
     requires { ⌜ Ready (now file) table (now msg) (now rows) (now out) ⌝ }
     ensures { λ r. ⌜ Numbered (now (file .entry)) table (now (msg .entry)) number (now (out .entry)) (now (out .exit)) r ⌝ }
 {
@@ -46,10 +63,10 @@ fn numbered(
                 i += 1;
             }
             NextPage::End => {
-                return Answer::End(i as u16);
+                return unplaced(Answer::End(i as u16));
             }
             NextPage::Refused(r) => {
-                return Answer::Refused(r);
+                return unplaced(Answer::Refused(r));
             }
         }
     }
@@ -57,7 +74,7 @@ fn numbered(
 }
 
 // The same, with rows for as many spans as the message can have: one for each of its bytes.
-fn paged(file: &[u8], table: SignFile, msg: &[u8], number: usize, out: &mut [u16]) -> Answer
+fn paged(file: &[u8], table: SignFile, msg: &[u8], number: usize, out: &mut [u16]) -> Placed
     requires { ⌜ Listable (now file) table (now msg) (now out) ⌝ }
     ensures { λ r. ⌜ Numbered (now (file .entry)) table (now (msg .entry)) number (now (out .entry)) (now (out .exit)) r ⌝ }
 {
@@ -69,28 +86,38 @@ fn paged(file: &[u8], table: SignFile, msg: &[u8], number: usize, out: &mut [u16
     numbered(file, table, msg, number, &mut rows, out)
 }
 
-// The answer, and its records first in the slice, which has room for as many as the message has bytes. Behind the refusals of every call
-// comes 4, the listing's own.
-pub fn compute(file: &[u8], msg: &[u8], number: usize, room: usize, out: &mut [u16]) -> Answer
+// The answer with its counts, and its records first in the slice, which has room for as many as the message has bytes. Behind the refusals of
+// every call comes 4, the listing's own.
+fn answered(file: &[u8], msg: &[u8], number: usize, room: usize, out: &mut [u16]) -> Placed
     requires { ⌜ RecordRoom (now msg) (now out) ⌝ }
-    ensures { λ r. ⌜ Computed (now (file .entry)) (now (msg .entry)) number room (now (out .entry)) (now (out .exit)) r ⌝ }
+    ensures { λ r. ⌜ Answered (now (file .entry)) (now (msg .entry)) number room (now (out .entry)) (now (out .exit)) r ⌝ }
 {
     let call = admit::admit(file, msg);
     let denied = call.denied;
     match denied {
-        OptRefusal::Some(r) => Answer::Refused(r),
+        OptRefusal::Some(r) => unplaced(Answer::Refused(r)),
         OptRefusal::None => {
             if room < 1400 {
-                return Answer::Refused(Refusal {
+                return unplaced(Answer::Refused(Refusal {
                     number: 4,
                     start: 0,
                     length: 0,
                     detail: 0,
-                });
+                }));
             }
             paged(file, call.table, msg, number, out)
         }
     }
+}
+
+// The answer alone.
+pub fn compute(file: &[u8], msg: &[u8], number: usize, room: usize, out: &mut [u16]) -> Answer
+    requires { ⌜ RecordRoom (now msg) (now out) ⌝ }
+    ensures { λ r. ⌜ Computed (now (file .entry)) (now (msg .entry)) number room (now (out .entry)) (now (out .exit)) r ⌝ }
+{
+    let p = answered(file, msg, number, room, out);
+    let answer = p.answer;
+    answer
 }
 
 // How many records an answer has.
@@ -119,4 +146,20 @@ pub fn counted(file: &[u8], msg: &[u8], number: usize, room: usize, out: &mut [u
     let answer = compute(file, msg, number, room, out);
     let count = count_of(answer);
     AnswerCount { answer, count }
+}
+
+// An answer with its counts, and how many records it has.
+pub struct PlacedCount {
+    pub placed: Placed,
+    pub count: usize,
+}
+
+// The answer with its counts, and with the count of its records, which stand first in the slice.
+pub fn placed(file: &[u8], msg: &[u8], number: usize, room: usize, out: &mut [u16]) -> PlacedCount
+    requires { ⌜ RecordRoom (now msg) (now out) ⌝ }
+    ensures { λ r. ⌜ PlacedAs (now (file .entry)) (now (msg .entry)) number room (now (out .exit)) r ⌝ }
+{
+    let placed = answered(file, msg, number, room, out);
+    let count = placed.spans as usize;
+    PlacedCount { placed, count }
 }

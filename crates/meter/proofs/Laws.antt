@@ -40,11 +40,13 @@ use Rattle.font.specs.Grown.{OneMore}
 use Rattle.layout.specs.declared.Entry.{Entry}
 use Rattle.layout.specs.Types.{unwrapOr, Meter}
 use Rattle.layout.specs.Fonts.{versionFault, charsOf, widthOf, measureIn, charFaultAfter, faultIn, meterOf}
+use Rattle.counts.specs.Placing.{lookedIn, fontsIn}
 use Rattle.rows.specs.declared.Row.{Row}
 use Rattle.rows.specs.Measured.{flag, faultNumber, faultDetail, gaugeOf, rowBy, rowOf}
 use Rattle.rows.specs.declared.Fault.{Fault}
 use Rattle.rows.specs.declared.Gauge.{Gauge}
-use Rattle.meter.specs.Gauges.{fontsIn, meterIn, AcceptedTable, WidthsOf, CodesFit, CodeFits, WidthFound, EntryIn, partCodes, fontAt, versionNumber, fault, faultBy, gaugeFor}
+use Rattle.meter.specs.Gauges.{meterIn, AcceptedTable, WidthsOf, CodesFit, CodeFits, WidthFound, EntryIn, partCodes, fontAt, versionNumber, fault, faultBy, gaugeFor, GaugedIn, lookedBy, GaugedBy, RowTaken}
+use Rattle.meter.specs.declared.Gauged.{Gauged}
 
 -- ---- widths
 
@@ -168,8 +170,8 @@ module _ (file msg : List ℕ) (e : Entry) (f : FontEntry) where
   pub gauge-is : {d s h l w n : ℕ} {m : Looked} {x : Fault} → d ≡ f .«char_spacing» → s ≡ unwrapOr (e .state .«char_spacing») d
       → WidthFound (charactersAt file f) s (charsOf msg e) m → n ≡ versionNumber (e .state .version) (f .«version_id») → x ≡ faultBy n (m .measure)
       → h ≡ f .height → l ≡ f .«line_spacing» → w ≡ widthOf (m .measure)
-      → record { spacing = s; height = h; «font_spacing» = l; width = w; fault = x .number; detail = x .detail }
-      ≡ gaugeFor msg e (some (fontAt file f))
+      → GaugedIn msg e (some (fontAt file f))
+      (record { gauge = record { spacing = s; height = h; «font_spacing» = l; width = w; fault = x .number; detail = x .detail }; looked = m .count })
   unfolding gaugeFor fontAt measureIn
   gauge-is {d} {s} {h} {l} {w} {n} {m} {x} p a b c y j k i =
       let z : s ≡ spacingBy (f .«char_spacing») = a ∙ ap spacingBy p in
@@ -177,7 +179,7 @@ module _ (file msg : List ℕ) (e : Entry) (f : FontEntry) where
       ap (λ (y : ℕ). textWidth (charactersAt file f) y (charsOf msg e)) (sym z) ∙ ap (λ (y : Looked). y .measure) (sym (b .is)) in
       let r : x ≡ faultAs (faultIn msg e (some (fontAt file f))) =
       y ∙ ap (λ (k : ℕ). faultBy k (m .measure)) c ∙ fault-parts msg e (fontAt file f) (e .state .version) (m .measure) q in
-      rw (z, j, k, i, r, ← q)
+      record { is = rw (z, j, k, i, r, ← q); looked = ap (λ (y : Looked). y .count) (b .is) }
 
 gauge-none : (msg : List ℕ) (e : Entry) → gaugeFor msg e none ≡ gaugeFor [] e none
 unfolding gaugeFor
@@ -233,32 +235,34 @@ module _ (file : List ℕ) (t : SignFile) (n : ℕ) (widths : List ℕ) (f : Fon
     widths-here h = h x (sym e ∙ p)
 
 -- the gauge of a span in the font that was found, or in none
-gauge-found : (file msg : List ℕ) (e : Entry) (o : Option Font) (g : Gauge) → fontNumbered (e .state .font) (fontsIn (signFile file)) ≡ o
-    → g ≡ gaugeFor msg e o → g ≡ gaugeOf (meterIn file msg) e
+gauge-found : (file msg : List ℕ) (e : Entry) (o : Option Font) (g : Gauged) → fontNumbered (e .state .font) (fontsIn (signFile file)) ≡ o
+    → GaugedIn msg e o g → GaugedBy file msg e g
 unfolding meterIn meterOf gaugeFor
-gauge-found file msg e o g h q = q ∙ ap (gaugeFor msg e) (sym h)
+gauge-found file msg e o g h q =
+    record { is = q .is ∙ ap (gaugeFor msg e) (sym h); looked = q .looked ∙ ap (lookedIn (charsOf msg e)) (sym h) }
 
 -- `gauge_of`: f is the answer of `font_numbered`
-module _ (file msg : List ℕ) (e : Entry) (t : SignFile) {f : FontFound} (p : f ≡ entryNumbered (e .state .font) (take (t .count) (t .fonts))) {g : Gauge} where
-  pub gauge-entry : (x : FontEntry) → f ≡ EntryIs x → g ≡ gaugeFor msg e (some (fontAt file x)) → AcceptedTable file t
-      → ((i : ℕ) → Val.Fits w8 (getD file i 0)) → g ≡ gaugeOf (meterIn file msg) e
-  gauge-entry x d q o fits =
+module _ (file msg : List ℕ) (e : Entry) (t : SignFile) {f : FontFound} (p : f ≡ entryNumbered (e .state .font) (take (t .count) (t .fonts))) where
+  pub gauge-entry : {g : Gauged} (x : FontEntry) → f ≡ EntryIs x → GaugedIn msg e (some (fontAt file x)) g → AcceptedTable file t
+      → ((i : ℕ) → Val.Fits w8 (getD file i 0)) → GaugedBy file msg e g
+  gauge-entry {g} x d q o fits =
       let b : Bytes file = λ i. omega (arith, fits i) in
       gauge-found file msg e (some (fontAt file x)) g (entry-font file t b o (e .state .font) f p x d) q
 
-  pub gauge-absent : f ≡ NoEntry → g ≡ gaugeFor [] e none → AcceptedTable file t → ((i : ℕ) → Val.Fits w8 (getD file i 0))
-      → g ≡ gaugeOf (meterIn file msg) e
+  pub gauge-absent : {g : Gauge} → f ≡ NoEntry → g ≡ gaugeFor [] e none → AcceptedTable file t → ((i : ℕ) → Val.Fits w8 (getD file i 0))
+      → GaugedBy file msg e (record { gauge = g; looked = 0 })
   gauge-absent d q o fits =
       let b : Bytes file = λ i. omega (arith, fits i) in
-      gauge-found file msg e none g (entry-none file t b o (e .state .font) f p d) (q ∙ sym (gauge-none msg e))
+      gauge-found file msg e none _ (entry-none file t b o (e .state .font) f p d) (record { is = q ∙ sym (gauge-none msg e); looked = refl })
 
 -- ---- the row
 
 pub row-is : (m : Meter) (e : Entry) → rowBy e (gaugeOf m e) ≡ rowOf m e
 row-is m e = refl
 
-pub row-made : (m : Meter) (e : Entry) (g : Gauge) (r : Row) → g ≡ gaugeOf m e → r ≡ rowBy e g → r ≡ rowOf m e
-row-made m e g r p q = q ∙ ap (rowBy e) p ∙ row-is m e
+pub row-made : {file msg : List ℕ} {e : Entry} {g : Gauged} {r : Row} → GaugedBy file msg e g → r ≡ rowBy e (g .gauge)
+    → RowTaken file msg e (record { row = r; looked = g .looked })
+row-made {file} {msg} {e} p q = record { is = q ∙ ap (rowBy e) (p .is) ∙ row-is (meterIn file msg) e; looked = p .looked }
 
 -- the fields of a row: each is its own by a call
 abbrev made : Entry → Gauge → ℕ → ℕ → ℕ → ℕ → ℕ → ℕ → Row

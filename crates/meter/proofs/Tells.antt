@@ -16,7 +16,8 @@ use Rattle.layout.specs.declared.Entry.{Entry}
 use Rattle.layout.specs.Types.{unwrapOr}
 use Rattle.layout.specs.Fonts.{versionFault, missing, measureIn, fontFaultIn, spacingIn, charFaultAfter, faultIn, meterOf}
 use Rattle.rows.specs.Measured.{faultNumber, faultDetail, faultOf, fontNumber, RowTells}
-use Rattle.meter.specs.Gauges.{fontsIn, meterIn}
+use Rattle.counts.specs.Placing.{fontsIn}
+use Rattle.meter.specs.Gauges.{meterIn}
 
 -- a span in its font: its fault has one of the numbers 10 to 12, and those of a font are 10 and 11
 module _ (msg : List ℕ) (e : Entry) where

@@ -9,14 +9,14 @@ use Rattle.base.specs.Pick.{pick}
 use Rattle.value.specs.declared.OptNum.{OptNum}
 use Rattle.value.specs.declared.OptNum.the-variants.{Some, None}
 use Rattle.utf8.specs.Utf8.{codes}
-use Rattle.sign.specs.Sign.{Character, Font, Sign, Accepted as Content, RefusedAt as Refusal, signFile}
+use Rattle.sign.specs.Sign.{Character, Font, signFile}
 use Rattle.sign.specs.Given.{given as tableOf}
 use Rattle.sign.specs.declared.FontEntry.{FontEntry}
 use Rattle.sign.specs.declared.SignFile.{SignFile}
 use Rattle.sign.specs.declared.Outcome.the-variants.{Accepted}
 use Rattle.font.specs.declared.FontFound.the-variants.{Entry as EntryIs}
 use Rattle.font.specs.Character.{charactersAt}
-use Rattle.font.specs.Table.{entryNumbered}
+use Rattle.font.specs.Table.{fontNumbered, entryNumbered}
 use Rattle.font.specs.Widths.{Widths}
 use Rattle.font.specs.Measure.{measureOf}
 use Rattle.font.specs.declared.Measure.{Measure}
@@ -24,15 +24,13 @@ use Rattle.font.specs.declared.Measure.the-variants.{Width, Missing}
 use Rattle.font.specs.declared.Looked.{Looked}
 use Rattle.layout.specs.declared.Entry.{Entry}
 use Rattle.layout.specs.Types.{Meter}
-use Rattle.layout.specs.Fonts.{faultIn, spacingIn, widthIn, heightIn, lineSpacingIn, meterOf}
-use Rattle.rows.specs.Measured.{faultNumber, faultDetail}
+use Rattle.layout.specs.Fonts.{charsOf, faultIn, spacingIn, widthIn, heightIn, lineSpacingIn, meterOf}
+use Rattle.counts.specs.Placing.{lookedIn, fontsIn}
+use Rattle.rows.specs.Measured.{faultNumber, faultDetail, gaugeOf, rowOf}
 use Rattle.rows.specs.declared.Fault.{Fault}
 use Rattle.rows.specs.declared.Gauge.{Gauge}
-
--- the fonts of a sign file
-abbrev pub fontsIn : Sign → List Font
-fontsIn (Content c fs) = fs
-fontsIn (Refusal at) = []
+use Rattle.meter.specs.declared.Gauged.{Gauged}
+use Rattle.meter.specs.declared.RowLooked.{RowLooked}
 
 unfoldable pub meterIn : List ℕ → List ℕ → Meter
 meterIn file msg = meterOf msg (fontsIn (signFile file))
@@ -109,3 +107,22 @@ gaugeFor msg e o =
       fault = faultNumber (faultIn msg e o);
       detail = faultDetail (faultIn msg e o);
     }
+
+-- the same, and how many characters its measure looked up
+pub record GaugedIn (msg : List ℕ) (e : Entry) (o : Option Font) (r : Gauged) : Type 0 where
+  pub is : r .gauge ≡ gaugeFor msg e o
+  pub looked : r .looked ≡ lookedIn (charsOf msg e) o
+
+-- how many characters the measure of a span looks up, in the fonts of a sign file
+abbrev pub lookedBy : List ℕ → List ℕ → Entry → ℕ
+lookedBy file msg e = lookedIn (charsOf msg e) (fontNumbered (e .state .font) (fontsIn (signFile file)))
+
+-- what the fonts of a sign file say of a span
+pub record GaugedBy (file msg : List ℕ) (e : Entry) (r : Gauged) : Type 0 where
+  pub is : r .gauge ≡ gaugeOf (meterIn file msg) e
+  pub looked : r .looked ≡ lookedBy file msg e
+
+-- its row
+pub record RowTaken (file msg : List ℕ) (e : Entry) (r : RowLooked) : Type 0 where
+  pub is : r .row ≡ rowOf (meterIn file msg) e
+  pub looked : r .looked ≡ lookedBy file msg e

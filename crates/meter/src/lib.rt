@@ -5,8 +5,8 @@ ghost use mathlib.Core.Option.{none, some};
 ghost use Rattle.font.specs.Character.{charactersAt};
 ghost use Rattle.font.specs.Widths.{Widths};
 ghost use Rattle.layout.specs.Fonts.{charsOf, widthOf};
-ghost use Rattle.rows.specs.Measured.{flag as flagOf, gaugeOf, rowBy, rowOf};
-ghost use Rattle.meter.specs.Gauges.{AcceptedTable, WidthsOf, partCodes, EntryIn, CodeFits, WidthFound, meterIn, fontAt, versionNumber, faultBy, gaugeFor};
+ghost use Rattle.rows.specs.Measured.{flag as flagOf, rowBy};
+ghost use Rattle.meter.specs.Gauges.{AcceptedTable, WidthsOf, partCodes, EntryIn, CodeFits, WidthFound, fontAt, versionNumber, faultBy, gaugeFor, GaugedIn, GaugedBy, RowTaken};
 use font::FontFound;
 use font::Looked;
 use font::Measure;
@@ -125,11 +125,17 @@ fn fault_by(version: u8, m: Measure) -> Fault
     }
 }
 
+// What the fonts say of a span, and how many characters its measure looked up.
+pub struct Gauged {
+    pub gauge: Gauge,
+    pub looked: usize,
+}
+
 // A span in a font.
-fn gauge_in(file: &[u8], f: FontEntry, widths: &[u16], msg: &[u8], e: Entry) -> Gauge
+fn gauge_in(file: &[u8], f: FontEntry, widths: &[u16], msg: &[u8], e: Entry) -> Gauged
     requires { ⌜ Widths (charactersAt (now file) f) (now widths) ⌝ }
     requires { ⌜ EntryIn (now msg) e ⌝ }
-    ensures { λ r. ⌜ r ≡ gaugeFor (now (msg .entry)) e (some (fontAt (now (file .entry)) f)) ⌝ }
+    ensures { λ r. ⌜ GaugedIn (now (msg .entry)) e (some (fontAt (now (file .entry)) f)) r ⌝ }
 {
     let st = e.state;
     let char_spacing = st.char_spacing;
@@ -138,13 +144,17 @@ fn gauge_in(file: &[u8], f: FontEntry, widths: &[u16], msg: &[u8], e: Entry) -> 
     let looked = span_width(file, f, widths, msg, e, spacing);
     let m = looked.measure;
     let fault = fault_by(version_number(version, f.version_id), m);
-    Gauge {
+    let gauge = Gauge {
         spacing,
         height: base::wide16(f.height),
         font_spacing: base::wide16(f.line_spacing),
         width: width_of(m),
         fault: fault.number,
         detail: fault.detail,
+    };
+    Gauged {
+        gauge,
+        looked: looked.count,
     }
 }
 
@@ -177,15 +187,18 @@ pub fn widths_of(file: &[u8], table: SignFile, font: u8) -> [u16; 256]
 }
 
 // What the fonts say of a span: widths has those of its font.
-fn gauge_of(file: &[u8], table: SignFile, widths: &[u16], msg: &[u8], e: Entry) -> Gauge
+fn gauge_of(file: &[u8], table: SignFile, widths: &[u16], msg: &[u8], e: Entry) -> Gauged
     requires { ⌜ AcceptedTable (now file) table × EntryIn (now msg) e ⌝ }
     requires { ⌜ WidthsOf (now file) table (e .state .font) (now widths) ⌝ }
-    ensures { λ r. ⌜ r ≡ gaugeOf (meterIn (now (file .entry)) (now (msg .entry))) e ⌝ }
+    ensures { λ r. ⌜ GaugedBy (now (file .entry)) (now (msg .entry)) e r ⌝ }
 {
     let st = e.state;
     match font::font_numbered(table, st.font) {
         FontFound::Entry(f) => gauge_in(file, f, widths, msg, e),
-        FontFound::Absent => no_font(e),
+        FontFound::Absent => {
+            let gauge = no_font(e);
+            Gauged { gauge, looked: 0 }
+        }
     }
 }
 
@@ -218,12 +231,22 @@ fn row_by(e: Entry, g: Gauge) -> Row
     }
 }
 
-// A span's row: widths has those of its font.
-pub fn row_of(file: &[u8], table: SignFile, widths: &[u16; 256], msg: &[u8], e: Entry) -> Row
+// A span's row, and how many characters its measure looked up.
+pub struct RowLooked {
+    pub row: Row,
+    pub looked: usize,
+}
+
+// A span's row, for which it is measured once: widths has those of its font.
+pub fn row_of(file: &[u8], table: SignFile, widths: &[u16; 256], msg: &[u8], e: Entry) -> RowLooked
     requires { ⌜ AcceptedTable (now file) table × EntryIn (now msg) e ⌝ }
     requires { ⌜ WidthsOf (now file) table (e .state .font) (now widths) ⌝ }
-    ensures { λ r. ⌜ r ≡ rowOf (meterIn (now (file .entry)) (now (msg .entry))) e ⌝ }
+    ensures { λ r. ⌜ RowTaken (now (file .entry)) (now (msg .entry)) e r ⌝ }
 {
     let g = gauge_of(file, table, widths, msg, e);
-    row_by(e, g)
+    let row = row_by(e, g.gauge);
+    RowLooked {
+        row,
+        looked: g.looked,
+    }
 }

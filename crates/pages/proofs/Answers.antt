@@ -30,10 +30,15 @@ use Rattle.pages.specs.declared.PageEnd.the-variants.{Refused as Refused
 use Rattle.pages.specs.declared.Pages.{Pages}
 use Rattle.pages.specs.declared.NextPage.{NextPage}
 use Rattle.pages.specs.declared.NextPage.the-variants.{Page as NextShown, End as NextNone, Refused as NextRefused}
-use Rattle.pages.specs.Pages.{boardIn, run, turned, pageTold, IfPageEnded, PageInMessage, PageRendered, pagesAt, stateAfter, shownBy, offBy, firstOf, todo, nextTold, InMessage, weight, IfShown, Advances, NextAsked, NextRead}
+use Rattle.pages.specs.Pages.{boardIn, lookedFor, run, turned, pageTold, IfPageEnded, PageInMessage, PageRendered, pagesAt, stateAfter, shownBy, offBy, firstOf, todo, nextTold, InMessage, weight, IfShown, Advances, NextAsked, NextRead}
 use Rattle.pages.proofs.Laws.{whole-inside}
 
 -- ---- an on page
+
+-- nothing is looked up before its first pass
+pub none-looked : (file msg out : List ℕ) → 0 ≡ lookedFor file msg out 0
+unfolding spansOf
+none-looked file msg out = refl
 
 -- q is the answer of the scan
 module _ (s : Board) (msg : List ℕ) (its : List Item) (a b : ℕ) (st : RenderState) (q : PageScan) (e : scanTold q ≡ scan (s .config) a b its) where
@@ -64,7 +69,7 @@ pub shown-refused : (a b : ℕ) {v : PageEnd} {x : Refusal} → v ≡ RefusedEnd
 shown-refused a b q = rw q
 
 pub shown-page : (a b : ℕ) {v : PageEnd} {d : PageDone} {st : PageState} → v ≡ EndedPage d → st ≡ stateAfter (d .more) b
-    → NextShown (pagesAt (d .at) (d .state) a b st) (record { on = true; duration = a; count = d .count }) ≡ shownBy a b v
+    → NextShown (pagesAt (d .at) (d .state) a b st) (record { on = true; duration = a; count = d .count; looked = d .looked }) ≡ shownBy a b v
 shown-page a b q e = rw (q, e)
 
 -- what follows a page
@@ -99,10 +104,17 @@ after-weight true b = new-weight (ltb 0 b)
 after-weight false b = done-weight (ltb 0 b)
 
 -- at is the page's place
-shown-advances : (c : Config) (all at a b : ℕ) (v : PageEnd) → IfPageEnded (PageInMessage c at all) v → IfShown (Advances c all at 2) (shownBy a b v)
-shown-advances c all at a b (RefusedEnd r) f = tt
-shown-advances c all at a b (EndedPage d) f =
-    record { stands = record { within = f .within; inside = f .inside }; less = omega (arith, after-weight (d .more) b, f .forward); few = f .few }
+shown-advances : (file msg out : List ℕ) (c : Config) (at a b : ℕ) (v : PageEnd) → IfPageEnded (PageInMessage file msg out c at) v
+    → IfShown (Advances file msg out c at 2) (shownBy a b v)
+shown-advances file msg out c at a b (RefusedEnd r) f = tt
+shown-advances file msg out c at a b (EndedPage d) f =
+    record {
+      stands = record { within = f .within; inside = f .inside };
+      less = omega (arith, after-weight (d .more) b, f .forward);
+      few = f .few;
+      looked = f .looked;
+      short = f .short;
+    }
 
 module _ {file : List ℕ} {table : SignFile} {msg : List ℕ} {p : Pages} {rows out : List ℕ} (asked : NextAsked file table msg p rows out)
     (q : PageScan) (e : scanTold q ≡ scan (table .config) (p .on) (p .off) (itemsFrom (p .at) msg)) where
@@ -127,7 +139,7 @@ module _ {file : List ℕ} {table : SignFile} {msg : List ℕ} {p : Pages} {rows
         ends =
             on-run s msg its (p .on) (p .off) (p .«render_state») q e h ∙ t .ends (q .on) (q .off)
             ∙ shown-told s msg (q .on) (q .off) out′ v;
-        next = shown-advances (table .config) (length msg) (p .at) (q .on) (q .off) v (t .done);
+        next = shown-advances file msg out′ (table .config) (p .at) (q .on) (q .off) v (t .done);
         rowed = t .rowed;
         room = t .room;
       })
@@ -148,14 +160,15 @@ module _ {file : List ℕ} {table : SignFile} {msg : List ℕ} {p : Pages} {rows
 
   -- an off page in a state
   abbrev offIn : PageState → NextPage
-  offIn x = NextShown (pagesAt (p .at) (p .«render_state») (p .on) (p .off) (nextState x)) (record { on = false; duration = p .off; count = 0 })
+  offIn x = NextShown (pagesAt (p .at) (p .«render_state») (p .on) (p .off) (nextState x)) (record { on = false; duration = p .off; count = 0; looked = 0 })
 
   stays : {x : PageState} → InMessage (table .config) (length msg) (pagesAt (p .at) (p .«render_state») (p .on) (p .off) x)
   stays = record { within = z .stands .within; inside = z .stands .inside }
 
-  off-advances : (b : Bool) → IfShown (Advances (table .config) (length msg) (p .at) (weight (OffState b))) (offIn (OffState b))
-  off-advances true = record { stands = stays; less = omega arith; few = omega arith }
-  off-advances false = record { stands = stays; less = omega arith; few = omega arith }
+  off-advances : (b : Bool) → IfShown (Advances file msg out (table .config) (p .at) (weight (OffState b))) (offIn (OffState b))
+  unfolding spansOf
+  off-advances true = record { stands = stays; less = omega arith; few = omega arith; looked = refl; short = omega arith }
+  off-advances false = record { stands = stays; less = omega arith; few = omega arith; looked = refl; short = omega arith }
 
   off-in : (b : Bool) → Tells (OffState b) (offIn (OffState b))
   off-in true = record { ends = refl; next = off-advances true; rowed = refl; room = refl }

@@ -32,7 +32,7 @@ use Rattle.pass.specs.Pass.{Ending, refused, ended, entriesOf, endingOf, events
 use Rattle.pass.proofs.Read.{read-pass}
 use Rattle.pages.specs.declared.PageEnd.{PageEnd}
 use Rattle.pages.specs.declared.PageEnd.the-variants.{Refused as RefusedEnd, Ended as EndedPage}
-use Rattle.pages.specs.Pages.{boardIn, Ready, RenderAsked, stopBy, placedEnding, SpansPlaced, PassRendered, run, turned, lastOf, pageDone, pageTold, IfPageEnded, PageInMessage, PageRendered}
+use Rattle.pages.specs.Pages.{boardIn, Ready, lookedFor, RenderAsked, stopBy, placedEnding, SpansPlaced, PassRendered, run, turned, lastOf, pageDone, pageTold, IfPageEnded, PageInMessage, PageRendered}
 
 -- ---- layout's answers, by a pass's ending
 
@@ -88,9 +88,11 @@ last-refused q = rw q
 
 -- where the loop stands: first is the state it began with, rows₀ and out₀ the slices
 pub record Stands (file : List ℕ) (table : SignFile) (msg : List ℕ) (from : ℕ) (first : RenderState) (rows₀ out₀ rows out : List ℕ)
-    (at : ℕ) (st : RenderState) (n k : ℕ) : Type 0 where
+    (at : ℕ) (st : RenderState) (n looked k : ℕ) : Type 0 where
   pub ready : Ready file table msg rows₀ out₀
   pub counted : n ≤ at
+  pub summed : looked ≡ lookedFor file msg out n
+  pub few : looked ≤ at
   pub begun : from ≤ at
   pub within : at ≤ length msg
   pub inside : Inside (table .config) (st .rect)
@@ -101,12 +103,14 @@ pub record Stands (file : List ℕ) (table : SignFile) (msg : List ℕ) (from : 
       ≡ run (boardIn file msg (table .config)) (itemsFrom from msg) a b first [] 0
 
 pub page-start : {file : List ℕ} {table : SignFile} {msg : List ℕ} {from : ℕ} {first : RenderState} {rows out : List ℕ}
-    → RenderAsked file table msg rows out from first 0 → Stands file table msg from first rows out rows out from first 0 0
+    → RenderAsked file table msg rows out from first 0 0 → Stands file table msg from first rows out rows out from first 0 0 0
 unfolding spansOf
 page-start h =
     record {
       ready = h .ready;
       counted = omega arith;
+      summed = refl;
+      few = omega arith;
       begun = omega arith;
       within = h .within;
       inside = h .inside;
@@ -119,14 +123,16 @@ pub whole-inside : (c : Config) → Inside c (whole c)
 whole-inside c = record { across = omega arith; down = omega arith }
 
 module _ {file : List ℕ} {table : SignFile} {msg : List ℕ} {from : ℕ} {first : RenderState} {rows₀ out₀ rows out : List ℕ}
-    {at : ℕ} {st : RenderState} {n k : ℕ} (z : Stands file table msg from first rows₀ out₀ rows out at st n k) where
-  pub page-asks : RenderAsked file table msg rows out at st n
+    {at : ℕ} {st : RenderState} {n looked k : ℕ} (z : Stands file table msg from first rows₀ out₀ rows out at st n looked k) where
+  pub page-asks : RenderAsked file table msg rows out at st n looked
   page-asks =
       let r : Ready file table msg rows₀ out₀ = z .ready in
       record {
         ready = record { opened = r .opened; small = r .small; rowed = omega arith; room = omega arith };
         within = z .within;
         counted = z .counted;
+        looked = z .summed;
+        few = z .few;
         inside = z .inside;
       }
 
@@ -162,8 +168,8 @@ module _ {file : List ℕ} {table : SignFile} {msg : List ℕ} {from : ℕ} {fir
 
     -- it is done, by h, and not the 51st
     module _ {d : PassDone} (q : t ≡ EndedPass d) {h : How} (e : d .how ≡ h) (few : k < 50) where
-      placed : SpansPlaced s es msg at out n out′ d
-      placed = subst (IfEnded (SpansPlaced s es msg at out n out′)) q (p .done)
+      placed : SpansPlaced file s es msg at out n out′ d
+      placed = subst (IfEnded (SpansPlaced file s es msg at out n out′)) q (p .done)
 
       not-full : full k ≡ none
       unfolding unless
@@ -190,6 +196,8 @@ module _ {file : List ℕ} {table : SignFile} {msg : List ℕ} {from : ℕ} {fir
             done =
                 record {
                   few = omega (arith, placed .counted, placed .within);
+                  looked = placed .looked;
+                  short = omega (arith, placed .few, placed .within);
                   forward = omega (arith, forth, z .begun, l);
                   within = placed .within;
                   inside = whole-inside (s .config);
@@ -198,11 +206,13 @@ module _ {file : List ℕ} {table : SignFile} {msg : List ℕ} {from : ℕ} {fir
             room = page-room;
           })
 
-      on-cut : h ≡ ByCut → Stands file table msg from first rows₀ out₀ rows′ out′ (d .at) (d .state) (d .count) (k + 1)
+      on-cut : h ≡ ByCut → Stands file table msg from first rows₀ out₀ rows′ out′ (d .at) (d .state) (d .count) (d .looked) (k + 1)
       on-cut i =
           record {
             ready = z .ready;
             counted = placed .counted;
+            summed = placed .looked;
+            few = placed .few;
             begun = omega (arith, forth, z .begun);
             within = placed .within;
             inside = placed .inside;
@@ -214,7 +224,7 @@ module _ {file : List ℕ} {table : SignFile} {msg : List ℕ} {from : ℕ} {fir
           }
 
     pub page-cut : {d : PassDone} → t ≡ EndedPass d → d .how ≡ ByCut → k < 50
-        → Stands file table msg from first rows₀ out₀ rows′ out′ (d .at) (d .state) (d .count) (k + 1)
+        → Stands file table msg from first rows₀ out₀ rows′ out′ (d .at) (d .state) (d .count) (d .looked) (k + 1)
     page-cut q e h = on-cut q e h refl
 
     pub page-turn : {d : PassDone} {v : PageEnd} → t ≡ EndedPass d → d .how ≡ ByTurn → k < 50 → v ≡ EndedPage (pageDone (table .config) true d) → Ends v
@@ -235,7 +245,7 @@ module _ {file : List ℕ} {table : SignFile} {msg : List ℕ} {from : ℕ} {fir
     last-is h (RefusedPass x) q a b = sym (came a b q)
     last-is h (EndedPass d) q a b = sym (came a b q) ∙ stopped h _
 
-    last-done : (u : PassEnd) → IfPageEnded (PageInMessage (s .config) from (length msg)) (lastOf u)
+    last-done : (u : PassEnd) → IfPageEnded (PageInMessage file msg out′ (s .config) from) (lastOf u)
     last-done (RefusedPass x) = tt
     last-done (EndedPass d) = tt
 

@@ -10,7 +10,11 @@ use mir.Val as Val
 use mir.Syntax.{w8, w64}
 use Rattle.refusal.specs.declared.Refusal.{Refusal}
 use Rattle.records.specs.declared.Config.{Config}
+use Rattle.sign.specs.Sign.{Font, signFile}
 use Rattle.sign.specs.declared.SignFile.{SignFile}
+use Rattle.font.specs.Table.{fontNumbered}
+use Rattle.counts.specs.Placing.{charsIn, lookedIn, charsLooked, fontsIn}
+use Rattle.counts.proofs.Laws.{sum-append, looked-pass}
 use Rattle.sign.proofs.Answer.{Accepts, accepts}
 use Rattle.layout.specs.declared.RenderState.{RenderState}
 use Rattle.layout.specs.declared.Entry.{Entry}
@@ -29,11 +33,11 @@ use Rattle.pass.specs.declared.PassDone.{PassDone}
 use Rattle.pass.specs.declared.PassEnd.{PassEnd}
 use Rattle.pass.specs.declared.PassEnd.the-variants.{Refused as RefusedPass, Ended as EndedPass}
 use Rattle.pass.specs.Pass.{Ending, entriesOf, endingOf, doneBy, told, IfEnded, SpansRead, PassRead}
-use Rattle.pages.specs.Pages.{boardIn, RenderAsked, stopBy, placedEnding, PassRendered}
+use Rattle.pages.specs.Pages.{boardIn, lookedFor, RenderAsked, stopBy, placedEnding, PassRendered}
 
 -- a pass was read: t is its end, rows₀ were there before it, and rows hold its spans
-module _ {file : List ℕ} {table : SignFile} {msg : List ℕ} {from : ℕ} {st : RenderState} {rows₀ out : List ℕ} {at : ℕ} {rows : List ℕ} {t : PassEnd}
-    (asked : RenderAsked file table msg rows₀ out from st at) (read : PassRead file table msg from st rows₀ rows t) where
+module _ {file : List ℕ} {table : SignFile} {msg : List ℕ} {from : ℕ} {st : RenderState} {rows₀ out : List ℕ} {at k : ℕ} {rows : List ℕ} {t : PassEnd}
+    (asked : RenderAsked file table msg rows₀ out from st at k) (read : PassRead file table msg from st rows₀ rows t) where
   abbrev c : Config
   c = table .config
 
@@ -42,6 +46,9 @@ module _ {file : List ℕ} {table : SignFile} {msg : List ℕ} {from : ℕ} {st 
 
   abbrev es : List Entry
   es = entriesOf c (itemsFrom from msg) st true
+
+  abbrev fs : List Font
+  fs = fontsIn (signFile file)
 
   abbrev end : Ending
   end = endingOf c (itemsFrom from msg) st true
@@ -76,6 +83,11 @@ module _ {file : List ℕ} {table : SignFile} {msg : List ℕ} {from : ℕ} {st 
         let p : SpansRead file table msg from st rows d = spans in
         omega (arith, asked .counted, asked .ready .small)
 
+    pub looked-fits : Val.Fits w64 (k + d .looked)
+    looked-fits =
+        let p : SpansRead file table msg from st rows d = spans in
+        omega (arith, asked .few, asked .ready .small)
+
     -- and placed: o is the answer
     module _ {out′ : List ℕ} {o : OptRefusal} (p : PassPlaced (table .config) (d .rect) rows (d .count) out at out′ o) where
       fault-is : rowsFault c (d .rect) (rowsOf rows (d .count)) ≡ passFault s (d .rect) es
@@ -92,16 +104,34 @@ module _ {file : List ℕ} {table : SignFile} {msg : List ℕ} {from : ℕ} {st 
       pub render-stop : {x : Refusal} → o ≡ Some x → Rendered out′ (RefusedPass x)
       render-stop e = record { ends = ends-by (ap faultIs e); done = tt; rowed = read .room; room = p .room }
 
-      pub render-done : {v : PassEnd} → o ≡ None → v ≡ EndedPass (doneBy (d .how) (d .at) (at + d .count) (d .rect) (d .state)) → Rendered out′ v
-      render-done e k =
+      -- the records of the page so far, and its characters looked up
+      written : o ≡ None → spansOf out′ (at + d .count) ≡ spansOf out at ++ passRecords s (d .rect) es
+      written e = p .written e ∙ ap (λ (l : List Span). spansOf out at ++ l) records-are
+
+      looked-so : o ≡ None → k + d .looked ≡ lookedFor file msg out′ (at + d .count)
+      looked-so e =
+          omega (
+            arith,
+            asked .looked,
+            spans .looked,
+            looked-pass fs msg s (d .rect) es,
+            sum-append (λ q. lookedIn (charsIn msg q) (fontNumbered (q .font) fs)) (spansOf out at) (passRecords s (d .rect) es),
+          )
+          ∙ ap (charsLooked fs msg) (sym (written e))
+
+      pub render-done : {v : PassEnd} → o ≡ None → v ≡ EndedPass (doneBy (d .how) (d .at) (at + d .count) (k + d .looked) (d .rect) (d .state))
+          → Rendered out′ v
+      render-done e i =
           let g : SpansRead file table msg from st rows d = spans in
-          subst (Rendered out′) (sym k)
+          subst (Rendered out′) (sym i)
           (record {
             ends = ends-by (ap faultIs e);
             done =
                 record {
-                  written = p .written e ∙ ap (λ (l : List Span). spansOf out at ++ l) records-are;
+                  written = written e;
+                  looked = looked-so e;
                   counted = omega (arith, asked .counted);
+                  few = omega (arith, asked .few, g .few);
                   forward = omega arith;
                   within = g .within;
                   inside = g .next;

@@ -10,6 +10,7 @@ use lib.ListN.{length}
 use Rattle.base.specs.Pick.{pick}
 use Rattle.refusal.specs.declared.Refusal.{Refusal}
 use Rattle.records.specs.declared.Config.{Config}
+use Rattle.sign.specs.Sign.{signFile}
 use Rattle.sign.specs.declared.SignFile.{SignFile}
 use Rattle.layout.specs.declared.RenderState.{RenderState}
 use Rattle.layout.specs.declared.Entry.{Entry}
@@ -24,6 +25,7 @@ use Rattle.page.specs.declared.PageState.the-variants.{On as OnState, Off as Of
 use Rattle.page.specs.State.{newPage as newState, doneAfter, nextState}
 use Rattle.page.specs.Scan.{itemsFrom}
 use Rattle.rows.specs.Rows.{RowRoom, SpanRoom, spansOf}
+use Rattle.counts.specs.Placing.{charsLooked, fontsIn}
 use Rattle.meter.specs.Gauges.{AcceptedTable, meterIn}
 use Rattle.pass.specs.declared.PassDone.{PassDone}
 use Rattle.pass.specs.declared.PassEnd.{PassEnd}
@@ -48,11 +50,17 @@ pub record Ready (file : List ℕ) (table : SignFile) (msg rows out : List ℕ) 
   pub rowed : RowRoom (length msg) rows
   pub room : SpanRoom (length msg) out
 
--- what is to be read and placed from a place on, with n records of its page before it
-pub record RenderAsked (file : List ℕ) (table : SignFile) (msg rows out : List ℕ) (from : ℕ) (st : RenderState) (n : ℕ) : Type 0 where
+-- how many characters were looked up for the first n records of out, in the fonts of a sign file
+abbrev pub lookedFor : List ℕ → List ℕ → List ℕ → ℕ → ℕ
+lookedFor file msg out n = charsLooked (fontsIn (signFile file)) msg (spansOf out n)
+
+-- what is to be read and placed from a place on, with n records of its page before it, for which k characters were looked up
+pub record RenderAsked (file : List ℕ) (table : SignFile) (msg rows out : List ℕ) (from : ℕ) (st : RenderState) (n k : ℕ) : Type 0 where
   pub ready : Ready file table msg rows out
   pub within : from ≤ length msg
   pub counted : n ≤ from
+  pub looked : k ≡ lookedFor file msg out n
+  pub few : k ≤ from
   pub inside : Inside (table .config) (st .rect)
 
 -- ---- a pass that is placed
@@ -65,10 +73,14 @@ abbrev pub placedEnding : Board → List Entry → Ending → Ending
 placedEnding s es (refused r) = refused r
 placedEnding s es (ended h r st its) = stopBy (passFault s r es) (ended h r st its)
 
--- its spans es are placed: the first records are those before it and its own, no more than there are bytes; out were there before it
-pub record SpansPlaced (s : Board) (es : List Entry) (msg : List ℕ) (from : ℕ) (out : List ℕ) (at : ℕ) (out′ : List ℕ) (d : PassDone) : Type 0 where
+-- its spans es are placed: the first records are those before it and its own, no more than there are bytes, and so many characters were looked up for
+-- them; out were there before it
+pub record SpansPlaced (file : List ℕ) (s : Board) (es : List Entry) (msg : List ℕ) (from : ℕ) (out : List ℕ) (at : ℕ) (out′ : List ℕ)
+    (d : PassDone) : Type 0 where
   pub written : spansOf out′ (d .count) ≡ spansOf out at ++ passRecords s (d .rect) es
+  pub looked : d .looked ≡ lookedFor file msg out′ (d .count)
   pub counted : d .count ≤ d .at
+  pub few : d .looked ≤ d .at
   pub forward : from + tagBytes (d .how) ≤ d .at
   pub within : d .at ≤ length msg
   pub inside : Inside (s .config) (d .state .rect)
@@ -80,7 +92,7 @@ pub record PassRendered (file : List ℕ) (table : SignFile) (msg : List ℕ) (f
       told msg r
       ≡ placedEnding (boardIn file msg (table .config)) (entriesOf (table .config) (itemsFrom from msg) st true)
       (endingOf (table .config) (itemsFrom from msg) st true)
-  pub done : IfEnded (SpansPlaced (boardIn file msg (table .config)) (entriesOf (table .config) (itemsFrom from msg) st true) msg from out at out′) r
+  pub done : IfEnded (SpansPlaced file (boardIn file msg (table .config)) (entriesOf (table .config) (itemsFrom from msg) st true) msg from out at out′) r
   pub rowed : length rows′ ≡ length rows
   pub room : length out′ ≡ length out
 
@@ -106,7 +118,7 @@ lastOf (EndedPass d) = tooMany
 
 -- the page whose last pass is done
 abbrev pub pageDone : Config → Bool → PassDone → PageDone
-pageDone c more d = record { more = more; at = d .at; count = d .count; state = newPage c (d .state) }
+pageDone c more d = record { more = more; at = d .at; count = d .count; looked = d .looked; state = newPage c (d .state) }
 
 -- the answers that a page's end tells; l holds its records
 abbrev pub pageTold : Board → List ℕ → ℕ → ℕ → List ℕ → PageEnd → List Page
@@ -118,11 +130,14 @@ abbrev pub IfPageEnded : (PageDone → Type 0) → PageEnd → Type 0
 IfPageEnded P (RefusedEnd r) = Unit {0}
 IfPageEnded P (EndedPage d) = P d
 
--- a page from a place on that is done has no more records than bytes, and lies in the message; [np] has a byte at least
-pub record PageInMessage (c : Config) (from all : ℕ) (d : PageDone) : Type 0 where
-  pub few : d .count ≤ all
+-- a page from a place on that is done has no more records than bytes, and no more characters looked up for them, and lies in the message; [np] has a byte
+-- at least; out holds its records
+pub record PageInMessage (file msg out : List ℕ) (c : Config) (from : ℕ) (d : PageDone) : Type 0 where
+  pub few : d .count ≤ length msg
+  pub looked : d .looked ≡ lookedFor file msg out (d .count)
+  pub short : d .looked ≤ length msg
   pub forward : from + pick (d .more) 1 0 ≤ d .at
-  pub within : d .at ≤ all
+  pub within : d .at ≤ length msg
   pub inside : Inside c (d .state .rect)
 
 -- the page from a place on was read and placed, and ended so
@@ -130,7 +145,7 @@ pub record PageRendered (file : List ℕ) (table : SignFile) (msg : List ℕ) (f
     (r : PageEnd) : Type 0 where
   pub ends : (a b : ℕ)
       → run (boardIn file msg (table .config)) (itemsFrom from msg) a b first [] 0 ≡ pageTold (boardIn file msg (table .config)) msg a b out′ r
-  pub done : IfPageEnded (PageInMessage (table .config) from (length msg)) r
+  pub done : IfPageEnded (PageInMessage file msg out′ (table .config) from) r
   pub rowed : length rows′ ≡ length rows
   pub room : length out′ ≡ length out
 
@@ -146,11 +161,14 @@ stateAfter more b = pick more (newState (ltb 0 b)) (doneAfter (ltb 0 b))
 -- the answer of an on page that ended so
 abbrev pub shownBy : ℕ → ℕ → PageEnd → NextPage
 shownBy a b (RefusedEnd r) = NextRefused r
-shownBy a b (EndedPage d) = NextShown (pagesAt (d .at) (d .state) a b (stateAfter (d .more) b)) (record { on = true; duration = a; count = d .count })
+shownBy a b (EndedPage d) =
+    NextShown (pagesAt (d .at) (d .state) a b (stateAfter (d .more) b)) (record { on = true; duration = a; count = d .count; looked = d .looked })
 
 -- an off page
 abbrev pub offBy : Pages → NextPage
-offBy p = NextShown (pagesAt (p .at) (p .«render_state») (p .on) (p .off) (nextState (p .«page_state»))) (record { on = false; duration = p .off; count = 0 })
+offBy p =
+    NextShown (pagesAt (p .at) (p .«render_state») (p .on) (p .off) (nextState (p .«page_state»)))
+    (record { on = false; duration = p .off; count = 0; looked = 0 })
 
 -- before the first answer
 abbrev pub firstOf : Config → Pages
@@ -194,11 +212,13 @@ IfShown P (NextShown p x) = P p x
 IfShown P NextNone = Unit {0}
 IfShown P (NextRefused r) = Unit {0}
 
--- an answer takes one of them, or bytes of the message, of which there are all; at is the place and w the weight before it
-pub record Advances (c : Config) (all at w : ℕ) (p : Pages) (x : PageShown) : Type 0 where
-  pub stands : InMessage c all p
+-- an answer takes one of them, or bytes of the message; at is the place and w the weight before it, and out holds its records
+pub record Advances (file msg out : List ℕ) (c : Config) (at w : ℕ) (p : Pages) (x : PageShown) : Type 0 where
+  pub stands : InMessage c (length msg) p
   pub less : 2 * at + weight (p .«page_state») + 1 ≤ 2 * p .at + w
-  pub few : x .count ≤ all
+  pub few : x .count ≤ length msg
+  pub looked : x .looked ≡ lookedFor file msg out (x .count)
+  pub short : x .looked ≤ length msg
 
 -- an answer can be read
 pub record NextAsked (file : List ℕ) (table : SignFile) (msg : List ℕ) (p : Pages) (rows out : List ℕ) : Type 0 where
@@ -208,6 +228,6 @@ pub record NextAsked (file : List ℕ) (table : SignFile) (msg : List ℕ) (p : 
 -- it was, in the page state x, and is r; rows and out were there before it, and rows′ and out′ are after it
 pub record NextRead (file : List ℕ) (table : SignFile) (msg : List ℕ) (p : Pages) (rows out rows′ out′ : List ℕ) (x : PageState) (r : NextPage) : Type 0 where
   pub ends : todoBy (boardIn file msg (table .config)) msg p x ≡ nextTold (boardIn file msg (table .config)) msg out′ r
-  pub next : IfShown (Advances (table .config) (length msg) (p .at) (weight x)) r
+  pub next : IfShown (Advances file msg out′ (table .config) (p .at) (weight x)) r
   pub rowed : length rows′ ≡ length rows
   pub room : length out′ ≡ length out

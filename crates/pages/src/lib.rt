@@ -12,11 +12,13 @@ use refusal::OptRefusal;
 use refusal::Refusal;
 use sign::SignFile;
 
-// A page that is done: whether [np] ended it, the place past that, the count of its records, and the state of a page after it.
+// A page that is done: whether [np] ended it, the place past that, the count of its records, how many characters its measures looked up, and
+// the state of a page after it.
 pub struct PageDone {
     pub more: bool,
     pub at: usize,
     pub count: usize,
+    pub looked: usize,
     pub state: RenderState,
 }
 
@@ -34,11 +36,12 @@ pub struct Pages {
     pub page_state: PageState,
 }
 
-// An answer: on or off, its duration, and the count of its records, which is 0 if it is off.
+// An answer: on or off, its duration, the count of its records and that of the characters looked up, which are 0 if it is off.
 pub struct PageShown {
     pub on: bool,
     pub duration: u16,
     pub count: usize,
+    pub looked: usize,
 }
 
 // The next answer and where the one after it comes from; the end; or a refusal.
@@ -48,7 +51,8 @@ pub enum NextPage {
     Refused(Refusal),
 }
 
-// The pass from a place on, read and placed as records from number at on: how it ends, with the count of the page's records.
+// The pass from a place on, read and placed as records from number at on: how it ends, with the counts of the page's records and of the
+// characters looked up for it, which so far are at and looked.
 fn render_pass(
     file: &[u8],
     table: SignFile,
@@ -58,8 +62,9 @@ fn render_pass(
     rows: &mut [u16],
     out: &mut [u16],
     at: usize,
+    looked: usize,
 ) -> PassEnd
-    requires { ⌜ RenderAsked (now file) table (now msg) (now rows) (now out) from st at ⌝ }
+    requires { ⌜ RenderAsked (now file) table (now msg) (now rows) (now out) from st at looked ⌝ }
     ensures { λ r. ⌜ PassRendered (now (file .entry)) table (now (msg .entry)) from st (now (rows .entry)) (now (out .entry)) at
         (now (rows .exit)) (now (out .exit)) r ⌝ }
 {
@@ -70,7 +75,7 @@ fn render_pass(
                 OptRefusal::Some(r) => PassEnd::Refused(r),
                 OptRefusal::None => {
                     let how = d.how;
-                    pass::end_pass(how, d.at, at + d.count, d.rect, d.state)
+                    pass::end_pass(how, d.at, at + d.count, looked + d.looked, d.rect, d.state)
                 }
             }
         }
@@ -109,6 +114,7 @@ fn end_page(c: Config, more: bool, d: PassDone) -> PageEnd
         more,
         at: d.at,
         count: d.count,
+        looked: d.looked,
         state,
     })
 }
@@ -123,7 +129,7 @@ fn render_page(
     rows: &mut [u16],
     out: &mut [u16],
 ) -> PageEnd
-    requires { ⌜ RenderAsked (now file) table (now msg) (now rows) (now out) from start 0 ⌝ }
+    requires { ⌜ RenderAsked (now file) table (now msg) (now rows) (now out) from start 0 0 ⌝ }
     ensures { λ r. ⌜ PageRendered (now (file .entry)) table (now (msg .entry)) from start (now (rows .entry)) (now (out .entry))
         (now (rows .exit)) (now (out .exit)) r ⌝ }
 {
@@ -131,9 +137,10 @@ fn render_page(
     let mut at = from;
     let mut st = start;
     let mut n: usize = 0;
+    let mut looked: usize = 0;
     let mut k: usize = 0;
     while k < 50 {
-        match render_pass(file, table, msg, at, st, rows, out, n) {
+        match render_pass(file, table, msg, at, st, rows, out, n, looked) {
             PassEnd::Refused(r) => {
                 return PageEnd::Refused(r);
             }
@@ -144,6 +151,7 @@ fn render_page(
                         at = d.at;
                         st = d.state;
                         n = d.count;
+                        looked = d.looked;
                         k += 1;
                     }
                     How::Turn => {
@@ -156,7 +164,7 @@ fn render_page(
             }
         }
     }
-    last_pass(render_pass(file, table, msg, at, st, rows, out, n))
+    last_pass(render_pass(file, table, msg, at, st, rows, out, n, looked))
 }
 
 // Whether a page is on or off after an on page with the off time off.
@@ -189,6 +197,7 @@ fn shown(on: u16, off: u16, end: PageEnd) -> NextPage
                 on: true,
                 duration: on,
                 count: d.count,
+                looked: d.looked,
             };
             NextPage::Page(next, page)
         }
@@ -238,6 +247,7 @@ fn render_off_page(p: Pages) -> NextPage
         on: false,
         duration: p.off,
         count: 0,
+        looked: 0,
     };
     NextPage::Page(next, page)
 }

@@ -8,7 +8,7 @@ use lib.Dec.{leb, ltb, eqb}
 use borrow.Author.Tests.{leb-true}
 use lib.ListN.{length, getD, take, drop, length-drop}
 use mir.Val as Val
-use mir.Syntax.{w8}
+use mir.Syntax.{w8, w64}
 use lib.Seq.{length-take-le, take-take}
 use Rattle.token.specs.Token.{Slice, sliceLen}
 use Rattle.token.proofs.Laws.{cuts-next, cuts-end, next-le, next-from, next-more}
@@ -35,11 +35,17 @@ use Rattle.rows.specs.declared.Row.{Row}
 use Rattle.rows.specs.Rows.{rowsOf, putRow, ByteFields, RowPut}
 use Rattle.rows.specs.Measured.{rowOf}
 use Rattle.rows.proofs.Laws.{rows-put}
+use Rattle.sign.specs.Sign.{signFile}
 use Rattle.sign.specs.declared.SignFile.{SignFile}
 use Rattle.sign.proofs.Answer.{Accepts, accepts}
-use Rattle.meter.specs.Gauges.{AcceptedTable, WidthsOf, CodesFit, meterIn, partCodes, EntryIn}
+use Rattle.font.specs.Table.{fontNumbered}
+use Rattle.counts.specs.Placing.{sumOf, fontsIn}
+use Rattle.counts.proofs.Laws.{looked-few}
+use Rattle.meter.specs.declared.RowLooked.{RowLooked}
+use Rattle.meter.specs.Gauges.{AcceptedTable, WidthsOf, CodesFit, meterIn, partCodes, EntryIn, lookedBy, RowTaken}
 use Rattle.pass.specs.declared.How.{How}
 use Rattle.pass.specs.declared.How.the-variants.{Cut as ByCut, Turn as ByTurn, End as ByEnd}
+use Rattle.pass.specs.declared.Kept.{Kept}
 use Rattle.pass.specs.declared.PassDone.{PassDone}
 use Rattle.pass.specs.declared.PassEnd.{PassEnd}
 use Rattle.pass.specs.declared.PassEnd.the-variants.{Refused as RefusedBy, Ended as EndedBy}
@@ -69,8 +75,9 @@ items-end at l h = ap (map itemAt) (cuts-end at l h)
 
 -- where the loop stands: first is the state it began with, rows₀ the rows
 pub record Stands (file : List ℕ) (table : SignFile) (msg : List ℕ) (from : ℕ) (first : RenderState) (rows₀ rows : List ℕ)
-    (st : RenderState) (blank : Bool) (at n : ℕ) (widths : List ℕ) (held : ℕ) : Type 0 where
+    (st : RenderState) (blank : Bool) (at n looked : ℕ) (widths : List ℕ) (held : ℕ) : Type 0 where
   pub counted : from + n ≤ at
+  pub few : from + looked ≤ at
   pub within : at ≤ length msg
   pub asked : PassAsked file table msg from first rows₀
   pub room : length rows ≡ length rows₀
@@ -79,11 +86,14 @@ pub record Stands (file : List ℕ) (table : SignFile) (msg : List ℕ) (from : 
   pub entries :
       rowsOf rows n ++ map (rowOf (meterIn file msg)) (entriesOf (table .config) (itemsFrom at msg) st blank)
       ≡ map (rowOf (meterIn file msg)) (entriesOf (table .config) (itemsFrom from msg) first true)
+  pub sum :
+      looked + sumOf (lookedBy file msg) (entriesOf (table .config) (itemsFrom at msg) st blank)
+      ≡ sumOf (lookedBy file msg) (entriesOf (table .config) (itemsFrom from msg) first true)
   pub kept : held < 256 → WidthsOf file table held widths
 
 module _ {file : List ℕ} {table : SignFile} {msg : List ℕ} {from : ℕ} {first : RenderState} {rows₀ rows : List ℕ}
-    {st : RenderState} {blank : Bool} {at n : ℕ} {widths : List ℕ} {held : ℕ}
-    (z : Stands file table msg from first rows₀ rows st blank at n widths held) where
+    {st : RenderState} {blank : Bool} {at n looked : ℕ} {widths : List ℕ} {held : ℕ}
+    (z : Stands file table msg from first rows₀ rows st blank at n looked widths held) where
   abbrev c : Config
   c = table .config
 
@@ -98,6 +108,13 @@ module _ {file : List ℕ} {table : SignFile} {msg : List ℕ} {from : ℕ} {fir
   abbrev All : List Row
   All = map f (entriesOf c (itemsFrom from msg) first true)
 
+  -- how many characters are looked up for entries, and for the whole pass
+  abbrev lookedFor : List Entry → ℕ
+  lookedFor = sumOf (lookedBy file msg)
+
+  abbrev Looked : ℕ
+  Looked = lookedFor (entriesOf c (itemsFrom from msg) first true)
+
   -- what is promised of the end
   abbrev Ends : PassEnd → Type 0
   Ends = PassRead file table msg from first rows₀ rows
@@ -107,12 +124,14 @@ module _ {file : List ℕ} {table : SignFile} {msg : List ℕ} {from : ℕ} {fir
   finish q e s = subst Ends (sym q) (record { ends = e; done = s; room = z .room })
 
   -- the message's end
-  pub pass-end : {v : PassEnd} → length msg ≤ at → v ≡ EndedBy (doneBy ByEnd at n (st .rect) st) → Ends v
+  pub pass-end : {v : PassEnd} → length msg ≤ at → v ≡ EndedBy (doneBy ByEnd at n looked (st .rect) st) → Ends v
   pass-end h q =
       finish q (last-ending (itemsFrom at msg) none-left ∙ z .ending)
       (record {
         spans = last-entries (itemsFrom at msg) none-left ∙ z .entries;
+        looked = last-sum (itemsFrom at msg) none-left ∙ z .sum;
         counted = omega (arith, z .counted);
+        few = z .few;
         within = z .within;
         inside = z .inside;
         next = z .inside;
@@ -126,6 +145,9 @@ module _ {file : List ℕ} {table : SignFile} {msg : List ℕ} {from : ℕ} {fir
 
       last-entries : (its : List Item) → its ≡ [] → rowsOf rows n ≡ rowsOf rows n ++ map f (entriesOf c its st blank)
       last-entries its e = rw e (sym (append-nil (rowsOf rows n)))
+
+      last-sum : (its : List Item) → its ≡ [] → looked ≡ looked + lookedFor (entriesOf c its st blank)
+      last-sum its e = rw e (omega arith)
 
   -- the slice at the place: r is its end, t what it does
   module _ {r : ℕ} {t : Step} (g : Steps (table .config) msg st blank at r t) where
@@ -178,6 +200,9 @@ module _ {file : List ℕ} {table : SignFile} {msg : List ℕ} {from : ℕ} {fir
       spans-so : rowsOf rows n ++ map f (entries u) ≡ All
       spans-so = ap (λ (l : List Entry). rowsOf rows n ++ map f l) (sym (here-entries ∙ ap entries q)) ∙ z .entries
 
+      sum-so : looked + lookedFor (entries u) ≡ Looked
+      sum-so = ap (λ (l : List Entry). looked + lookedFor l) (sym (here-entries ∙ ap entries q)) ∙ z .sum
+
       lies-so : StepWithin c st (itemAt slice) u
       lies-so = subst (StepWithin c st (itemAt slice)) q lies
 
@@ -185,33 +210,37 @@ module _ {file : List ℕ} {table : SignFile} {msg : List ℕ} {from : ℕ} {fir
     pass-refuse q = record { ends = ends-so q; done = tt; room = z .room }
 
     -- [tr] or [np]: no span comes after it
-    closed : {h : How} {st′ : RenderState} → rowsOf rows n ++ [] ≡ All → tagBytes h ≤ 1 → Inside c (st′ .rect)
-        → SpansRead file table msg from first rows (doneBy h r n (st .rect) st′)
-    closed e k i =
+    closed : {h : How} {st′ : RenderState} → rowsOf rows n ++ [] ≡ All → looked + 0 ≡ Looked → tagBytes h ≤ 1 → Inside c (st′ .rect)
+        → SpansRead file table msg from first rows (doneBy h r n looked (st .rect) st′)
+    closed e l k i =
         record {
           spans = sym (append-nil (rowsOf rows n)) ∙ e;
+          looked = omega (arith, l);
           counted = omega (arith, z .counted, more, k);
+          few = omega (arith, z .few, more);
           within = past;
           inside = z .inside;
           next = i;
         }
 
-    pub pass-cut : {st′ : RenderState} {v : PassEnd} → t ≡ Cut st′ → v ≡ EndedBy (doneBy ByCut r n (st .rect) st′) → Ends v
-    pass-cut {st′} q e = finish e (ends-so q) (closed (spans-so q) (omega arith) (fits-inside c (st′ .rect) ((lies-so q) .1)))
+    pub pass-cut : {st′ : RenderState} {v : PassEnd} → t ≡ Cut st′ → v ≡ EndedBy (doneBy ByCut r n looked (st .rect) st′) → Ends v
+    pass-cut {st′} q e = finish e (ends-so q) (closed (spans-so q) (sum-so q) (omega arith) (fits-inside c (st′ .rect) ((lies-so q) .1)))
 
-    pub pass-turn : {v : PassEnd} → t ≡ Turn → v ≡ EndedBy (doneBy ByTurn r n (st .rect) st) → Ends v
-    pass-turn q e = finish e (ends-so q) (closed (spans-so q) (omega arith) (z .inside))
+    pub pass-turn : {v : PassEnd} → t ≡ Turn → v ≡ EndedBy (doneBy ByTurn r n looked (st .rect) st) → Ends v
+    pass-turn q e = finish e (ends-so q) (closed (spans-so q) (sum-so q) (omega arith) (z .inside))
 
-    pub pass-go : {st′ : RenderState} {b : Bool} → t ≡ Go st′ b → Stands file table msg from first rows₀ rows st′ b r n widths held
+    pub pass-go : {st′ : RenderState} {b : Bool} → t ≡ Go st′ b → Stands file table msg from first rows₀ rows st′ b r n looked widths held
     pass-go {st′} q =
         record {
           counted = omega (arith, z .counted, more);
+          few = omega (arith, z .few, more);
           within = past;
           asked = z .asked;
           room = z .room;
           inside = same-inside c (st′ .rect) (st .rect) ((lies-so q) .1) (z .inside);
           ending = ends-so q;
           entries = spans-so q;
+          sum = sum-so q;
           kept = z .kept;
         }
 
@@ -248,11 +277,21 @@ module _ {file : List ℕ} {table : SignFile} {msg : List ℕ} {from : ℕ} {fir
       abbrev later : List Row
       later = map f (entriesOf c (itemsFrom r msg) st′ b)
 
-      pub pass-emit : {widths′ rows′ : List ℕ} {held′ : ℕ} → Stored file table msg x rows n widths′ rows′ held′
-          → Stands file table msg from first rows₀ rows′ st′ b r (n + 1) widths′ held′
-      pass-emit w =
+      -- no more characters than the slice has bytes
+      looked-here : {widths′ rows′ : List ℕ} {y : Kept} → Stored file table msg x rows n widths′ rows′ y → y .looked ≤ r - at
+      looked-here w =
+          rw (w .looked)
+          (looked-few msg x (fontNumbered (x .state .font) (fontsIn (signFile file))) (r - at) shorter (omega (arith, more)))
+
+      pub pass-adds : {widths′ rows′ : List ℕ} {y : Kept} → Stored file table msg x rows n widths′ rows′ y → Val.Fits w64 (looked + y .looked)
+      pass-adds w = omega (arith, looked-here w, z .few, more, past, z .asked .small)
+
+      pub pass-emit : {widths′ rows′ : List ℕ} {y : Kept} → Stored file table msg x rows n widths′ rows′ y
+          → Stands file table msg from first rows₀ rows′ st′ b r (n + 1) (looked + y .looked) widths′ (y .font)
+      pass-emit {y = y} w =
           record {
             counted = omega (arith, z .counted, more);
+            few = omega (arith, looked-here w, z .few, more);
             within = past;
             asked = z .asked;
             room = w .room ∙ z .room;
@@ -263,23 +302,26 @@ module _ {file : List ℕ} {table : SignFile} {msg : List ℕ} {from : ℕ} {fir
                 ∙ ap (λ (y : List Row). y ++ later) (rows-put rows n (f x) (pass-stores .room) (w .bytes))
                 ∙ append-assoc (rowsOf rows n) (f x ∷ []) later
                 ∙ spans-so q;
-            kept = λ y. rw (w .font) (w .kept);
+            sum = omega (arith, w .looked, sum-so q);
+            kept = λ _. rw (w .font) (w .kept);
           }
 
 module _ {file : List ℕ} {table : SignFile} {msg : List ℕ} {from : ℕ} {first : RenderState} {rows : List ℕ}
     (asked : PassAsked file table msg from first rows) where
   -- where the loop begins
-  pub pass-start : {widths : List ℕ} → Stands file table msg from first rows rows first true from 0 widths 256
+  pub pass-start : {widths : List ℕ} → Stands file table msg from first rows rows first true from 0 0 widths 256
   unfolding rowsOf
   pass-start =
       record {
         counted = omega arith;
+        few = omega arith;
         within = asked .within;
         asked = asked;
         room = refl;
         inside = asked .inside;
         ending = refl;
         entries = refl;
+        sum = omega arith;
         kept = λ h. absurd (omega arith);
       }
 
@@ -300,12 +342,19 @@ module _ {file : List ℕ} {table : SignFile} {msg : List ℕ} {from : ℕ} {fir
 
 -- ---- a span's row
 
-pub stored-by : {file : List ℕ} {table : SignFile} {msg : List ℕ} {e : Entry} {rows : List ℕ} {n : ℕ} {widths′ rows′ : List ℕ} {held′ : ℕ} {row : Row}
-    → row ≡ rowOf (meterIn file msg) e → RowPut rows n row rows′
+pub stored-by : {file : List ℕ} {table : SignFile} {msg : List ℕ} {e : Entry} {rows : List ℕ} {n : ℕ} {widths′ rows′ : List ℕ} {held′ : ℕ} {y : RowLooked}
+    → RowTaken file msg e y → RowPut rows n (y .row) rows′
     → held′ ≡ e .state .font → WidthsOf file table (e .state .font) widths′
-    → Stored file table msg e rows n widths′ rows′ held′
+    → Stored file table msg e rows n widths′ rows′ (record { font = held′; looked = y .looked })
 stored-by {rows = rows} {n = n} p d q w =
-    record { row = d .put ∙ ap (putRow rows n) p; bytes = subst ByteFields p (d .bytes); font = q; kept = w; room = d .room }
+    record {
+      row = d .put ∙ ap (putRow rows n) (p .is);
+      bytes = subst ByteFields (p .is) (d .bytes);
+      font = q;
+      looked = p .looked;
+      kept = w;
+      room = d .room;
+    }
 
 -- ---- the widths of a font
 

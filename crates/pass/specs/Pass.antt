@@ -18,9 +18,11 @@ use Rattle.layout.specs.Read.{step, Scan, scan, Event, pass, close, stop, stopI
 use Rattle.page.specs.Scan.{itemsFrom}
 use Rattle.rows.specs.Rows.{RowRoom, rowsOf, putRow, ByteFields}
 use Rattle.rows.specs.Measured.{rowOf}
-use Rattle.meter.specs.Gauges.{AcceptedTable, WidthsOf, EntryIn, meterIn}
+use Rattle.counts.specs.Placing.{sumOf}
+use Rattle.meter.specs.Gauges.{AcceptedTable, WidthsOf, EntryIn, meterIn, lookedBy}
 use Rattle.pass.specs.declared.How.{How}
 use Rattle.pass.specs.declared.How.the-variants.{Cut as ByCut, Turn as ByTurn, End as ByEnd}
+use Rattle.pass.specs.declared.Kept.{Kept}
 use Rattle.pass.specs.declared.PassDone.{PassDone}
 use Rattle.pass.specs.declared.PassEnd.{PassEnd}
 use Rattle.pass.specs.declared.PassEnd.the-variants.{Refused as RefusedBy, Ended as EndedBy}
@@ -58,8 +60,8 @@ endingOf c (it ∷ its) st blank = endingBy st its (endingOf c its) (step c st b
 unfoldable pub stepAt : Config → RenderState → Bool → ℕ → List ℕ → Step
 stepAt c st blank at s = step c st blank (itemAt (record { start = at; bytes = s }))
 
-abbrev pub doneBy : How → ℕ → ℕ → Rect → RenderState → PassDone
-doneBy h at n r st = record { how = h; at = at; count = n; rect = r; state = st }
+abbrev pub doneBy : How → ℕ → ℕ → ℕ → Rect → RenderState → PassDone
+doneBy h at n k r st = record { how = h; at = at; count = n; looked = k; rect = r; state = st }
 
 -- the ending that the code tells
 abbrev pub told : List ℕ → PassEnd → Ending
@@ -106,11 +108,12 @@ pub record Storable (file : List ℕ) (table : SignFile) (msg : List ℕ) (e : E
   pub few : n < 2048
   pub room : RowRoom (n + 1) rows
 
--- it was: the widths are those of its font
-pub record Stored (file : List ℕ) (table : SignFile) (msg : List ℕ) (e : Entry) (rows : List ℕ) (n : ℕ) (widths′ rows′ : List ℕ) (held′ : ℕ) : Type 0 where
+-- it was: the widths are those of its font, and its measure looked so many characters up
+pub record Stored (file : List ℕ) (table : SignFile) (msg : List ℕ) (e : Entry) (rows : List ℕ) (n : ℕ) (widths′ rows′ : List ℕ) (r : Kept) : Type 0 where
   pub row : rows′ ≡ putRow rows n (rowOf (meterIn file msg) e)
   pub bytes : ByteFields (rowOf (meterIn file msg) e)
-  pub font : held′ ≡ e .state .font
+  pub font : r .font ≡ e .state .font
+  pub looked : r .looked ≡ lookedBy file msg e
   pub kept : WidthsOf file table (e .state .font) widths′
   pub room : length rows′ ≡ length rows
 
@@ -122,10 +125,13 @@ pub record PassAsked (file : List ℕ) (table : SignFile) (msg : List ℕ) (from
   pub rowed : RowRoom (length msg) rows
   pub inside : Inside (table .config) (first .rect)
 
--- a pass that is done: the first rows are its spans', each of which has a byte beside those of its end; and its rectangles lie inside the sign
+-- a pass that is done: the first rows are its spans', and their measures looked so many characters up; each has a byte beside those of its end; and its
+-- rectangles lie inside the sign
 pub record SpansRead (file : List ℕ) (table : SignFile) (msg : List ℕ) (from : ℕ) (first : RenderState) (rows : List ℕ) (d : PassDone) : Type 0 where
   pub spans : rowsOf rows (d .count) ≡ map (rowOf (meterIn file msg)) (entriesOf (table .config) (itemsFrom from msg) first true)
+  pub looked : d .looked ≡ sumOf (lookedBy file msg) (entriesOf (table .config) (itemsFrom from msg) first true)
   pub counted : from + d .count + tagBytes (d .how) ≤ d .at
+  pub few : from + d .looked ≤ d .at
   pub within : d .at ≤ length msg
   pub inside : Inside (table .config) (d .rect)
   pub next : Inside (table .config) (d .state .rect)

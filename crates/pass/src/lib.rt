@@ -21,12 +21,13 @@ pub enum How {
     End,
 }
 
-// A pass that is done: what ended it, the place past that, the count of its spans, its rectangle, and the state after [tr], before [np] or at
-// the message's end.
+// A pass that is done: what ended it, the place past that, the count of its spans, how many characters their measures looked up, its
+// rectangle, and the state after [tr], before [np] or at the message's end.
 pub struct PassDone {
     pub how: How,
     pub at: usize,
     pub count: usize,
+    pub looked: usize,
     pub rect: Rect,
     pub state: RenderState,
 }
@@ -79,6 +80,12 @@ fn keep(file: &[u8], table: SignFile, font: u8, held: u16, widths: &mut [u16; 25
     wanted
 }
 
+// The font whose widths are kept, and how many characters a span's measure looked up.
+pub struct Kept {
+    pub font: u16,
+    pub looked: usize,
+}
+
 // Stores a span's row, and keeps the widths of its font.
 fn store(
     file: &[u8],
@@ -89,23 +96,35 @@ fn store(
     widths: &mut [u16; 256],
     rows: &mut [u16],
     n: usize,
-) -> u16
+) -> Kept
     requires { ⌜ Storable (now file) table (now msg) e held (now widths) (now rows) n ⌝ }
     ensures { λ r. ⌜ Stored (now (file .entry)) table (now (msg .entry)) e (now (rows .entry)) n (now (widths .exit)) (now (rows .exit)) r ⌝ }
 {
     let font = keep(file, table, e.state.font, held, widths);
-    rows::put_row(rows, n, meter::row_of(file, table, widths, msg, e));
-    font
+    let r = meter::row_of(file, table, widths, msg, e);
+    rows::put_row(rows, n, r.row);
+    Kept {
+        font,
+        looked: r.looked,
+    }
 }
 
 // The pass is done.
-pub fn end_pass(how: How, at: usize, count: usize, rect: Rect, state: RenderState) -> PassEnd
-    ensures { λ r. ⌜ r ≡ PassEnd.Ended (doneBy how at count rect state) ⌝ }
+pub fn end_pass(
+    how: How,
+    at: usize,
+    count: usize,
+    looked: usize,
+    rect: Rect,
+    state: RenderState,
+) -> PassEnd
+    ensures { λ r. ⌜ r ≡ PassEnd.Ended (doneBy how at count looked rect state) ⌝ }
 {
     PassEnd::Ended(PassDone {
         how,
         at,
         count,
+        looked,
         rect,
         state,
     })
@@ -128,6 +147,7 @@ pub fn read_pass(
     let mut blank = true;
     let mut at = from;
     let mut n: usize = 0;
+    let mut looked: usize = 0;
     let mut widths = [0u16; 256];
     let mut held: u16 = 256;
     while at < msg.len() {
@@ -142,19 +162,21 @@ pub fn read_pass(
                 at = end;
             }
             Step::Emit(e, next, b) => {
-                held = store(file, table, msg, e, held, &mut widths, rows, n);
+                let kept = store(file, table, msg, e, held, &mut widths, rows, n);
+                held = kept.font;
+                looked += kept.looked;
                 st = next;
                 blank = b;
                 at = end;
                 n += 1;
             }
             Step::Cut(next) => {
-                return end_pass(How::Cut, end, n, st.rect, next);
+                return end_pass(How::Cut, end, n, looked, st.rect, next);
             }
             Step::Turn => {
-                return end_pass(How::Turn, end, n, st.rect, st);
+                return end_pass(How::Turn, end, n, looked, st.rect, st);
             }
         }
     }
-    end_pass(How::End, at, n, st.rect, st)
+    end_pass(How::End, at, n, looked, st.rect, st)
 }

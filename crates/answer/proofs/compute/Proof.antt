@@ -1,4 +1,3 @@
-use Rattle.answer.proofs.Laws.{call-denied, call-short, call-listable, call-listed}
 use borrow.Author.Needs.{needs}
 use Rattle.answer.proofs.compute.Statement.{statement}
 use Rattle.answer.proofs.compute.Tie as tie
@@ -6,11 +5,6 @@ use Rattle.answer.proofs.compute.Tie as tie
 pub compute-spec : {M : Type 1} → statement M
 compute-spec =
     tie.close (tie.spec
-    (λ c κs. search needs)  -- admit-requires
-    (λ c. search needs)  -- enum-known-denied
-    (λ c. search needs)  -- enum-told
-    (λ c. search call-short)  -- returns
-    (λ c κs. search call-listable)  -- paged-requires
-    (λ c. search call-denied)  -- returns-2
+    (λ c κs. search needs)  -- answered-requires
     (λ c. search needs)  -- same-length
-    (λ c. search call-listed))  -- returns-3
+    (λ c. let a : tie.After-answered = search in a .answered .ensures .computed))  -- returns

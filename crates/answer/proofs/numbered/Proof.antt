@@ -38,10 +38,12 @@ numbered-spec =
     (λ c. let a : Read = search in search numbered-next)  -- loop-again
     (λ c. search needs)  -- enum-told
     (λ c. let l : Looped = search in search needs)  -- cast-t17
+    (λ c κs. search needs)  -- unplaced-requires
     (λ c. search needs)  -- same-length
     (λ c. search needs)  -- same-length-2
     (λ c. let a : Read = search in search numbered-end)  -- returns
     (λ c. search needs)  -- enum-known-r
+    (λ c κs. search needs)  -- unplaced-requires-2
     (λ c. search needs)  -- same-length-3
     (λ c. search needs)  -- same-length-4
     (λ c. let a : Read = search in search numbered-refused)  -- returns-2

@@ -8,4 +8,4 @@ row-of-spec =
     tie.close (tie.spec
     (λ c κs. search needs)  -- gauge-of-requires
     (λ c κs. search needs)  -- row-by-requires
-    (λ c. search (row-made, needs) depth 6))  -- returns
+    (λ c. search row-made))  -- returns

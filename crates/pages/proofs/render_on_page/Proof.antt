@@ -1,4 +1,4 @@
-use Rattle.pages.proofs.Answers.{on-stop, on-shown}
+use Rattle.pages.proofs.Answers.{none-looked, on-stop, on-shown}
 use borrow.Author.Needs.{needs}
 use Rattle.pages.proofs.render_on_page.Statement.{statement}
 use Rattle.pages.proofs.render_on_page.Tie as tie
@@ -9,7 +9,7 @@ render-on-page-spec =
     (λ c κs. search needs)  -- scan-requires
     (λ c. search needs)  -- enum-known-fault
     (λ c. search needs)  -- enum-told
-    (λ c κs. search needs)  -- render-page-requires
+    (λ c κs. search (none-looked, needs))  -- render-page-requires
     (λ c κs. search needs)  -- shown-requires
     (λ c. search on-stop)  -- returns
     (λ c. search needs)  -- same-length

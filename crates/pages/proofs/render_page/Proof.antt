@@ -5,10 +5,10 @@ use Rattle.pages.proofs.render_page.Statement.{statement}
 use Rattle.pages.proofs.render_page.Tie as tie
 
 abbrev Inv-loop : tie.InvT-loop
-Inv-loop file table msg from rows₀ out₀ c at₀ st₀ n₀ k₀ rows out at st n k = Stands file table msg from st₀ rows₀ out₀ rows out at st n k
+Inv-loop file table msg from rows₀ out₀ c at₀ st₀ n₀ looked₀ k₀ rows out at st n looked k = Stands file table msg from st₀ rows₀ out₀ rows out at st n looked k
 
 abbrev μ-loop : tie.MeasureT-loop
-μ-loop file table msg from rows₀ out₀ c at₀ st₀ n₀ k₀ rows out at st n k = 50 - k
+μ-loop file table msg from rows₀ out₀ c at₀ st₀ n₀ looked₀ k₀ rows out at st n looked k = 50 - k
 
 -- a pass was placed in the loop
 abbrev Passed : Type 0

@@ -2,16 +2,16 @@ use Prim.Native.Nat.{_-_}
 use lib.ListN.{length}
 use borrow.Author.Needs.{needs}
 use Rattle.token.proofs.Laws.{next-less}
-use Rattle.pass.proofs.Laws.{Stands, pass-start, pass-asks, pass-end, pass-refuse, pass-cut, pass-turn, pass-go, pass-stores, pass-emit}
+use Rattle.pass.proofs.Laws.{Stands, pass-start, pass-asks, pass-end, pass-refuse, pass-cut, pass-turn, pass-go, pass-stores, pass-adds, pass-emit}
 use Rattle.pass.proofs.read_pass.Statement.{statement}
 use Rattle.pass.proofs.read_pass.Tie as tie
 
 abbrev Inv-loop : tie.InvT-loop
-Inv-loop file table msg from rows₀ c st₀ blank₀ at₀ n₀ widths₀ held₀ rows st blank at n widths held =
-    Stands file table msg from st₀ rows₀ rows st blank at n widths held
+Inv-loop file table msg from rows₀ c st₀ blank₀ at₀ n₀ looked₀ widths₀ held₀ rows st blank at n looked widths held =
+    Stands file table msg from st₀ rows₀ rows st blank at n looked widths held
 
 abbrev μ-loop : tie.MeasureT-loop
-μ-loop file table msg from rows₀ c st₀ blank₀ at₀ n₀ widths₀ held₀ rows st blank at n widths held = length msg - at
+μ-loop file table msg from rows₀ c st₀ blank₀ at₀ n₀ looked₀ widths₀ held₀ rows st blank at n looked widths held = length msg - at
 
 -- the slice was read
 abbrev Stepped : Type 0
@@ -45,6 +45,12 @@ read-pass-spec =
     let a : Stepped = search in
     let l : Looped = search in
     pass-stores (l .loop .inv) (a .step-at .ensures) (e .e .given .1))  -- store-requires
+    (λ c.
+    let p : tie.After-store Inv-loop μ-loop = search in
+    let e : Emitted = search in
+    let a : Stepped = search in
+    let l : Looped = search in
+    pass-adds (l .loop .inv) (a .step-at .ensures) (e .e .given .1) (p .store .ensures))  -- add-looked
     (λ c. let e : Emitted = search in search needs)  -- add-n
     (λ c. let a : Stepped = search in search next-less)  -- loop-less-2
     (λ c.
