@@ -1,9 +1,10 @@
 /*
  * Kambelohi: the message core of lamp boards.
  *
- * Three calls: kambelohi_read says what stands at an offset of a MULTI message, kambelohi_list where the text of its pages
- * stands on a sign, and kambelohi_sentence writes a refusal as an English sentence. Link target/staticlib/libkambelohi.a (x86-64
- * Linux), which `rt staticlib kambelohi` writes. Of the C library it needs memcpy and memset, and nothing else.
+ * Four calls: kambelohi_read says what stands at an offset of a MULTI message, kambelohi_list where the text of its pages stands
+ * on a sign, kambelohi_place the same with two counts, and kambelohi_sentence writes a refusal as an English sentence. Link
+ * target/staticlib/libkambelohi.a (x86-64 Linux), which `rt staticlib kambelohi` writes. Of the C library it needs memcpy and
+ * memset, and nothing else.
  *
  * What is said here of answers, records and sentences follows from contracts that are proved of the code
  * (crates/kambelohi/src/lib.rt), for any bytes, any lengths, any offset or answer number, and any numbers of a refusal. A call
@@ -34,7 +35,12 @@ extern "C" {
 #endif
 
 /* Bytes of stack that a call takes at most. */
-enum { KAMBELOHI_READ_STACK = 512, KAMBELOHI_LIST_STACK = 155648, KAMBELOHI_SENTENCE_STACK = 704 };
+enum {
+    KAMBELOHI_READ_STACK = 512,
+    KAMBELOHI_LIST_STACK = 155648,
+    KAMBELOHI_PLACE_STACK = 155648,
+    KAMBELOHI_SENTENCE_STACK = 704
+};
 
 /* A longer sign file is refused with 1, a longer message with 2. */
 enum { KAMBELOHI_SIGN_FILE_BYTES = 65535, KAMBELOHI_MESSAGE_BYTES = 2048 };
@@ -47,9 +53,9 @@ enum { KAMBELOHI_RECORDS = 1400, KAMBELOHI_SENTENCE_BYTES = 96 };
  *
  * kambelohi_read has 2 to 7, in this order: 2 and 3 are of the whole message, 4 of the offset, 5 to 7 of the slice there.
  *
- * kambelohi_list has 1 to 4 in this order, for every answer number. Then page after page: 5 to 7 by position in the message,
- * up to and with the page's [np]; then pass after pass (a pass ends at [tr], [np] or the end), 6 and 8 by position, 9, then
- * 10 to 14 span by span, x before y, and 15.
+ * kambelohi_list and kambelohi_place have 1 to 4 in this order, for every answer number. Then page after page: 5 to 7 by
+ * position in the message, up to and with the page's [np]; then pass after pass (a pass ends at [tr], [np] or the end), 6 and 8
+ * by position, 9, then 10 to 14 span by span, x before y, and 15.
  *
  * kambelohi_sentence has 16.
  *
@@ -146,7 +152,7 @@ kambelohi_read_answer kambelohi_read(const uint8_t *msg, size_t len, size_t offs
 
 /* ---- listing */
 
-/* Kinds of an answer of kambelohi_list. */
+/* Kinds of an answer of kambelohi_list and kambelohi_place. */
 enum {
     KAMBELOHI_ON = 1,           /* a page that is on for duration tenths of a second; count records are written */
     KAMBELOHI_OFF = 2,          /* a dark page of duration tenths */
@@ -198,6 +204,29 @@ typedef struct {
  */
 kambelohi_list_answer kambelohi_list(const uint8_t *file, size_t file_len, const uint8_t *msg, size_t msg_len, size_t answer,
                                      kambelohi_span *spans, size_t span_count);
+
+/* ---- placing: the listing with counts */
+
+/* An answer of a listing, with the kinds of kambelohi_list, and two counts. What a kind does not use is 0. */
+typedef struct {
+    uint8_t kind;
+    uint8_t number;
+    uint16_t duration;
+    uint16_t count;
+    uint16_t start;
+    uint16_t length;
+    uint16_t detail;
+    uint16_t looked;  /* of an on page: the characters that its measures looked up, which are those that its records print; else 0 */
+    uint16_t spans;   /* of an on page: the spans placed, as many as its records; else 0 */
+} kambelohi_place_answer;
+
+/*
+ * Answers what kambelohi_list answers, writes what that writes, and beside it gives the counts of the page. Each span is measured
+ * once, and each character that it prints is looked up once: a text has as many as it has code points, an [hc] one, an empty line
+ * none. An off answer, the end and a refusal have 0 as both counts.
+ */
+kambelohi_place_answer kambelohi_place(const uint8_t *file, size_t file_len, const uint8_t *msg, size_t msg_len, size_t answer,
+                                       kambelohi_span *spans, size_t span_count);
 
 /* ---- the refusal as a sentence */
 

@@ -56,6 +56,17 @@ FIELD(kambelohi_list_answer, start, 8, 2);
 FIELD(kambelohi_list_answer, length, 10, 2);
 FIELD(kambelohi_list_answer, detail, 12, 2);
 
+static_assert(sizeof(kambelohi_place_answer) == 16, "size of kambelohi_place_answer");
+FIELD(kambelohi_place_answer, kind, 0, 1);
+FIELD(kambelohi_place_answer, number, 1, 1);
+FIELD(kambelohi_place_answer, duration, 2, 2);
+FIELD(kambelohi_place_answer, count, 4, 2);
+FIELD(kambelohi_place_answer, start, 6, 2);
+FIELD(kambelohi_place_answer, length, 8, 2);
+FIELD(kambelohi_place_answer, detail, 10, 2);
+FIELD(kambelohi_place_answer, looked, 12, 2);
+FIELD(kambelohi_place_answer, spans, 14, 2);
+
 static_assert(sizeof(kambelohi_sentence_answer) == 12, "size of kambelohi_sentence_answer");
 FIELD(kambelohi_sentence_answer, kind, 0, 2);
 FIELD(kambelohi_sentence_answer, count, 2, 2);
@@ -160,7 +171,27 @@ static void must(const char *name, const char *what, int holds) {
 
 /* ---- listing */
 
-/* One call on count patterned records, and whether those that it does not count are as they were. */
+/* The placing call on the same patterned records: it must answer and write what the listing call did, and count the records. */
+static kambelohi_place_answer call_place(const char *name, lent file, lent msg, size_t answer, size_t count, const uint8_t *pattern,
+                                         kambelohi_list_answer a) {
+    static uint8_t listed[MOST * sizeof(kambelohi_span)];
+    size_t size = count * sizeof(kambelohi_span);
+    uint8_t *at = spans_end - size;
+    memcpy(listed, at, size);
+    memcpy(at, pattern, size);
+    kambelohi_place_answer p = kambelohi_place(file.at, file.len, msg.at, msg.len, answer, (kambelohi_span *)(void *)at, count);
+    must(name, "the placing call answers what the listing call answers",
+         p.kind == a.kind && p.duration == a.duration && p.count == a.count && p.number == a.number && p.start == a.start
+             && p.length == a.length && p.detail == a.detail);
+    must(name, "the placing call writes what the listing call writes", memcmp(at, listed, size) == 0);
+    must(name, "the spans placed are the records", p.spans == (a.kind == KAMBELOHI_ON ? a.count : 0));
+    must(name, "no character but of a page", a.kind == KAMBELOHI_ON || p.looked == 0);
+    return p;
+}
+
+static kambelohi_place_answer placed;
+
+/* One call on count patterned records, and whether those that it does not count are as they were; then the placing call. */
 static kambelohi_list_answer call(const char *name, lent file, lent msg, size_t answer, size_t count) {
     static uint8_t pattern[MOST * sizeof(kambelohi_span)];
     static unsigned turn = 0;
@@ -175,7 +206,16 @@ static kambelohi_list_answer call(const char *name, lent file, lent msg, size_t 
     size_t written = a.kind == KAMBELOHI_ON ? a.count * sizeof(kambelohi_span) : 0;
     must(name, "as many records as are lent", written <= size);
     must(name, "records past the count are as they were", memcmp(at + written, pattern + written, size - written) == 0);
+    placed = call_place(name, file, msg, answer, count, pattern, a);
     return a;
+}
+
+/* The counts of an answer. */
+static void counts(const char *name, lent file, lent msg, size_t answer, int kind, int looked, int spans) {
+    call(name, file, msg, answer, KAMBELOHI_RECORDS);
+    must(name, "the kind", placed.kind == kind);
+    must(name, "the characters looked up", placed.looked == looked);
+    must(name, "the spans placed", placed.spans == spans);
 }
 
 static void say_answer(kambelohi_list_answer a) {
@@ -248,6 +288,20 @@ static void worked_boards(lent p) {
           "1 10 1 0 0 0 0; (t 13 1 0, 0 0 6 7, 1 0 0, 1 1 50 24)2 5 0 0 0 0 0;3 0 4 0 0 0 0;");
     lists("a page before a refusal", p, lend_text("A[np][fo9]B"),
           "1 30 1 0 0 0 0; (t 0 1 0, 0 0 5 7, 1 0 0, 1 1 50 24)4 0 0 10 10 1 9;");
+}
+
+/* Document 02, A9: both counts, which are 0 for off, the end and a refusal. */
+static void page_counts(lent p) {
+    counts("nothing to count", p, lend_text(""), 0, KAMBELOHI_ON, 0, 0);
+    counts("two characters", p, lend_text("AB"), 0, KAMBELOHI_ON, 2, 1);
+    counts("texts, a bracket, an [hc] and an empty line", p, lend_text("[nl]AB[[[hc41][tr1,1,0,0]A"), 0, KAMBELOHI_ON, 5, 5);
+    counts("a first page", p, lend_text("[pt10o5]AB[np]B"), 0, KAMBELOHI_ON, 2, 1);
+    counts("an off answer", p, lend_text("[pt10o5]AB[np]B"), 1, KAMBELOHI_OFF, 0, 0);
+    counts("a later page", p, lend_text("[pt10o5]AB[np]B"), 2, KAMBELOHI_ON, 1, 1);
+    counts("the end", p, lend_text("[pt10o5]AB[np]B"), 4, KAMBELOHI_LAST, 0, 0);
+    counts("a page that is refused", p, lend_text("AB[np][tr1,1,12,7]AB"), 1, KAMBELOHI_LIST_REFUSED, 0, 0);
+    counts("a missing character", p, lend_text("AC"), 0, KAMBELOHI_LIST_REFUSED, 0, 0);
+    counts("a pass that is refused after one that is placed", p, lend_text("AB[tr1,1,12,7]AB"), 0, KAMBELOHI_LIST_REFUSED, 0, 0);
 }
 
 /* Document 01: "Board P with height 7, character height 7, middle, font height 5", with the character A only. */
@@ -464,6 +518,7 @@ int main(int argc, char **argv) {
     spans_end = fence();
     buffer_end = fence();
     worked_boards(lend(file_end, sign, len));
+    page_counts(lend(file_end, sign, len));
     list_refusals(lend(file_end, sign, len));
     short_slices(lend(file_end, sign, len));
     values();

@@ -6,8 +6,8 @@
  * program says on which line, and ends with 1. The stack is painted before; how far down the paint is gone is what the calls took. The
  * most of all cases must be above three quarters of what the header says, so that the header says neither too little nor far too much.
  *
- * An L line: every answer of the listing up to the end or a refusal, the two after it, the last number there is, and a slice of too few
- * records. A V line, and the message of an L line: the reading call at every offset, past the end, and at the last number there is.
+ * An L line, for the listing and the placing call: every answer up to the end or a refusal, the two after it, the last number there is, and
+ * a slice of too few records. A V line, and the message of an L line: the reading call at every offset, past the end, and at the last number there is.
  * Before the first line, as line 0: the sentences of all numbers with places of one to five digits, and a buffer of too few bytes. Every
  * refusal of each call must have come.
  */
@@ -39,6 +39,7 @@ typedef struct {
 
 static measure reading = {"kambelohi_read", KAMBELOHI_READ_STACK, 0, 0, {0}};
 static measure listing = {"kambelohi_list", KAMBELOHI_LIST_STACK, 0, 0, {0}};
+static measure placing = {"kambelohi_place", KAMBELOHI_PLACE_STACK, 0, 0, {0}};
 static measure telling = {"kambelohi_sentence", KAMBELOHI_SENTENCE_STACK, 0, 0, {0}};
 
 /* The case at hand. */
@@ -92,6 +93,19 @@ static __attribute__((noinline)) void list_all(void) {
     }
 }
 
+static __attribute__((noinline)) void place_all(void) {
+    GIVE_AWAY(KAMBELOHI_PLACE_STACK);
+    size_t past = 0;
+    for (size_t n = 0; past < 5; n++) {
+        size_t answer = past < 3 ? n : past == 3 ? SIZE_MAX : 0;
+        size_t count = past == 4 ? KAMBELOHI_RECORDS - 1 : KAMBELOHI_RECORDS;
+        kambelohi_place_answer a = kambelohi_place(file, file_len, msg, msg_len, answer, spans, count);
+        placing.calls++;
+        placing.refusals[a.number % 32]++;
+        past += past > 0 || a.kind == KAMBELOHI_LAST || a.kind == KAMBELOHI_LIST_REFUSED;
+    }
+}
+
 static __attribute__((noinline)) void tell_all(void) {
     static const uint16_t places[] = {0, 9, 10, 99, 100, 999, 1000, 9999, 10000, 65535};
     static uint8_t buffer[KAMBELOHI_SENTENCE_BYTES];
@@ -118,6 +132,8 @@ static void *run(void *all) {
     }
     if (all == &listing) {
         list_all();
+    } else if (all == &placing) {
+        place_all();
     } else if (all == &telling) {
         tell_all();
     } else {
@@ -176,6 +192,7 @@ static void line(const char *text) {
         take(&reading);
         if (text[0] == 'L') {
             take(&listing);
+            take(&placing);
         }
         free(msg);
     } else if (strchr("IDXQke", text[0]) == NULL) {
@@ -222,5 +239,5 @@ int main(void) {
     }
     free(text);
     free(file);
-    return judge(&reading, 2, 7) | judge(&listing, 1, 15) | judge(&telling, 16, 16);
+    return judge(&reading, 2, 7) | judge(&listing, 1, 15) | judge(&placing, 1, 15) | judge(&telling, 16, 16);
 }

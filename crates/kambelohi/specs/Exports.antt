@@ -5,9 +5,12 @@ use Rattle.numbers.specs.Numbers.{numbersOf}
 use Rattle.reading.specs.declared.Reading.{Reading}
 use Rattle.reading.specs.declared.Reading.the-variants.{Slice, End, Refused}
 use Rattle.kambelohi.specs.declared.ReadAnswer.{ReadAnswer}
+use Rattle.refusal.specs.declared.Refusal.{Refusal}
 use Rattle.layout.specs.declared.Answer.{Answer}
 use Rattle.layout.specs.declared.Answer.the-variants.{On, Off, End as LastEnd, Refused as RefusedBy}
 use Rattle.kambelohi.specs.declared.ListAnswer.{ListAnswer}
+use Rattle.counts.specs.declared.Placed.{Placed}
+use Rattle.kambelohi.specs.declared.PlaceAnswer.{PlaceAnswer}
 use Rattle.sentence.specs.declared.Told.{Told}
 use Rattle.sentence.specs.declared.Told.the-variants.{Length, Refused as RefusedTo}
 use Rattle.kambelohi.specs.declared.SentenceAnswer.{SentenceAnswer}
@@ -30,6 +33,23 @@ listAnswer (On d n) = plainAnswer 1 d n
 listAnswer (Off d) = plainAnswer 2 d 0
 listAnswer (LastEnd n) = plainAnswer 3 0 n
 listAnswer (RefusedBy f) = record { kind = 4; duration = 0; count = 0; number = f .number; start = f .start; length = f .length; detail = f .detail }
+
+-- the same kinds, and the counts of a placing beside them
+abbrev pub plainPlace : ℕ → ℕ → ℕ → ℕ → ℕ → PlaceAnswer
+plainPlace k d n j m = record { kind = k; number = 0; duration = d; count = n; start = 0; length = 0; detail = 0; looked = j; spans = m }
+
+abbrev pub refusedPlace : Refusal → ℕ → ℕ → PlaceAnswer
+refusedPlace f j m =
+    record { kind = 4; number = f .number; duration = 0; count = 0; start = f .start; length = f .length; detail = f .detail; looked = j; spans = m }
+
+abbrev pub placeBy : Answer → ℕ → ℕ → PlaceAnswer
+placeBy (On d n) j m = plainPlace 1 d n j m
+placeBy (Off d) j m = plainPlace 2 d 0 j m
+placeBy (LastEnd n) j m = plainPlace 3 0 n j m
+placeBy (RefusedBy f) j m = refusedPlace f j m
+
+abbrev pub placeAnswer : Placed → PlaceAnswer
+placeAnswer p = placeBy (p .answer) (p .looked) (p .spans)
 
 -- a sentence is 1, a refusal 2
 abbrev pub sentenceAnswer : Told → SentenceAnswer

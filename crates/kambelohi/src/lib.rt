@@ -1,10 +1,12 @@
 // What C and Rust link: the calls, with structs of numbers for answers. include/kambelohi.h says the same in C.
 ghost use mathlib.Core.Path.{_≡_};
 ghost use Rattle.layout.specs.Listing.{listing as listingOf, after as afterOf};
-ghost use Rattle.kambelohi.specs.Exports.{readAnswer, plainAnswer, listAnswer, sentenceAnswer};
+ghost use Rattle.counts.specs.Placing.{placing as placingOf};
+ghost use Rattle.kambelohi.specs.Exports.{readAnswer, plainAnswer, listAnswer, plainPlace, refusedPlace, placeAnswer, sentenceAnswer};
 ghost use Rattle.reading.specs.Reading.{reading as readingOf};
 ghost use Rattle.refusal.specs.Refusals.{refusal as refusalOf};
 ghost use Rattle.sentence.specs.Sentence.{telling as tellingOf, bufferAfter as bufferOf};
+use counts::Placed;
 use layout::Answer;
 use layout::Span;
 use reading::Reading;
@@ -130,6 +132,82 @@ pub extern "C" fn kambelohi_list(
         × (now (recs .exit) ≡ afterOf (now (file .entry)) (now (message .entry)) answer (now (recs .entry))) ⌝ }
 {
     list_answer(listing::list(file, message, answer, recs))
+}
+
+// An answer of a placing: that of the listing, with its kinds, and two counts of the page: the characters that its measures looked up, and the
+// spans placed. Both are 0 but for on. What a kind does not use is 0.
+#[repr(C)]
+pub struct PlaceAnswer {
+    pub kind: u8,
+    pub number: u8,
+    pub duration: u16,
+    pub count: u16,
+    pub start: u16,
+    pub length: u16,
+    pub detail: u16,
+    pub looked: u16,
+    pub spans: u16,
+}
+
+// An answer's kind, times and counts.
+fn plain_place(kind: u8, duration: u16, count: u16, looked: u16, spans: u16) -> PlaceAnswer
+    ensures { λ r. ⌜ r ≡ plainPlace kind duration count looked spans ⌝ }
+{
+    PlaceAnswer {
+        kind,
+        number: 0,
+        duration,
+        count,
+        start: 0,
+        length: 0,
+        detail: 0,
+        looked,
+        spans,
+    }
+}
+
+// A refusal's numbers.
+fn refused_place(f: Refusal, looked: u16, spans: u16) -> PlaceAnswer
+    ensures { λ r. ⌜ r ≡ refusedPlace f looked spans ⌝ }
+{
+    PlaceAnswer {
+        kind: 4,
+        number: f.number,
+        duration: 0,
+        count: 0,
+        start: f.start,
+        length: f.length,
+        detail: f.detail,
+        looked,
+        spans,
+    }
+}
+
+// The numbers of an answer of a placing.
+fn place_answer(p: Placed) -> PlaceAnswer
+    ensures { λ r. ⌜ r ≡ placeAnswer p ⌝ }
+{
+    let answer = p.answer;
+    match answer {
+        Answer::On(d, n) => plain_place(1, d, n, p.looked, p.spans),
+        Answer::Off(d) => plain_place(2, d, 0, p.looked, p.spans),
+        Answer::End(n) => plain_place(3, 0, n, p.looked, p.spans),
+        Answer::Refused(f) => refused_place(f, p.looked, p.spans),
+    }
+}
+
+// Placing: sign file, message, answer number from 0, and the lent slice.
+#[no_mangle]
+pub extern "C" fn kambelohi_place(
+    file: &[u8],
+    message: &[u8],
+    answer: usize,
+    recs: &mut [Span],
+) -> PlaceAnswer
+    ensures { λ r. ⌜ (r ≡ placeAnswer (placingOf (now (file .entry)) (now (message .entry)) answer (now (recs .entry))))
+        × (now (recs .exit) ≡ afterOf (now (file .entry)) (now (message .entry)) answer (now (recs .entry))) ⌝ }
+{
+    place_answer(listing::place(file, message, answer, recs))
 }
 
 // An answer of kambelohi_sentence. kind: 1 the sentence is written, 2 a refusal. Of a sentence: how many bytes; of a refusal: number, start,

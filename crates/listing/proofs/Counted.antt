@@ -63,11 +63,11 @@ Known file m n k r zs = Counted file m n k zs r
 abbrev pub Listed : List ℕ → List ℕ → ℕ → List Span → Answer → List Span → Type 0
 Listed file m n ys x ws = (x ≡ listing file m n ys) × (ws ≡ after file m n ys)
 
-room : (file m : List ℕ) (n k : ℕ) (r : AnswerCount) (zs : List ℕ) → Known file m n k r zs → (r .count < 2 ^ 64) × Writable zs (r .count) k
+pub room : (file m : List ℕ) (n k : ℕ) (r : AnswerCount) (zs : List ℕ) → Known file m n k r zs → (r .count < 2 ^ 64) × Writable zs (r .count) k
 room file m n k r zs known =
     (omega (arith, known .most), record { few = omega (arith, known .most); long = known .long; lent = known .few })
 
-tells : (file m : List ℕ) (n : ℕ) (ys : List Span) (r : AnswerCount) (zs : List ℕ) → Known file m n (length ys) r zs
+pub tells : (file m : List ℕ) (n : ℕ) (ys : List Span) (r : AnswerCount) (zs : List ℕ) → Known file m n (length ys) r zs
     → Listed file m n ys (r .answer) (overwritten (spanAt zs) (r .count) ys)
 unfolding listing after spansOf
 tells file m n ys r zs known = (

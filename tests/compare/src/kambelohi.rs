@@ -75,6 +75,49 @@ pub fn list(file: &[u8], msg: &[u8], answer: usize, spans: &mut [Span]) -> ListA
     }
 }
 
+/// An answer of the placing call: that of the listing call, and two counts
+#[repr(C)]
+#[derive(Clone, Copy, Debug, Default, Eq, PartialEq)]
+pub struct PlaceAnswer {
+    pub kind: u8,
+    pub number: u8,
+    pub duration: u16,
+    pub count: u16,
+    pub start: u16,
+    pub length: u16,
+    pub detail: u16,
+    pub looked: u16,
+    pub spans: u16,
+}
+
+unsafe extern "C" {
+    fn kambelohi_place(
+        file: *const u8,
+        file_len: usize,
+        msg: *const u8,
+        msg_len: usize,
+        answer: usize,
+        spans: *mut Span,
+        span_count: usize,
+    ) -> PlaceAnswer;
+}
+
+/// List an answer of a message on a sign file, with the counts of its page
+pub fn place(file: &[u8], msg: &[u8], answer: usize, spans: &mut [Span]) -> PlaceAnswer {
+    // The call takes any bytes, answer number and slice.
+    unsafe {
+        kambelohi_place(
+            file.as_ptr(),
+            file.len(),
+            msg.as_ptr(),
+            msg.len(),
+            answer,
+            spans.as_mut_ptr(),
+            spans.len(),
+        )
+    }
+}
+
 /// An answer of the sentence call
 #[repr(C)]
 #[derive(Clone, Copy, Debug, Default, Eq, PartialEq)]

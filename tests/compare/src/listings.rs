@@ -1,13 +1,14 @@
 //! Compares the listing call with the Rust, on the messages and sign files of
 //! a case stream.
 
+use crate::counts::ask_place;
 use crate::kambelohi::{ListAnswer, Span, list};
 use crate::stops::{EVERY, Why};
 use kambelohi_oracle::{Answer, Record, listing};
 use std::collections::BTreeMap;
 
 /// Records that a lent slice must have
-const ROOM: usize = 1400;
+pub const ROOM: usize = 1400;
 
 impl ListAnswer {
     pub fn on(duration: u16, count: u16) -> Self {
@@ -125,22 +126,31 @@ fn numbers(r: &Record) -> Span {
     ])
 }
 
-/// Ask for an answer, and see that all but its records stay
-fn ask(
+/// Fill a slice with records that no call writes
+pub fn fill(slice: &mut [Span]) {
+    for (i, s) in slice.iter_mut().enumerate() {
+        *s = pattern(i);
+    }
+}
+
+/// Ask for an answer, see that all but its records stay, and that the placing
+/// call gives the same with the counts of the records
+pub fn ask(
     sign: &[u8],
     msg: &[u8],
     number: usize,
     slice: &mut [Span],
 ) -> Result<ListAnswer, String> {
-    for (i, s) in slice.iter_mut().enumerate() {
-        *s = pattern(i);
-    }
+    fill(slice);
     let a = list(sign, msg, number, slice);
     let written = if a.kind == 1 { a.count.into() } else { 0 };
-    match slice.iter().enumerate().skip(written).find(|(i, s)| **s != pattern(*i)) {
-        Some((i, _)) => Err(format!("answer {number} {a:?}: record {i} changed")),
-        None => Ok(a),
+    if let Some((i, _)) =
+        slice.iter().enumerate().skip(written).find(|(i, s)| **s != pattern(*i))
+    {
+        return Err(format!("answer {number} {a:?}: record {i} changed"));
     }
+    ask_place(sign, msg, number, &a, slice)?;
+    Ok(a)
 }
 
 /// A tag of field 0, which the Rust's scan passes over

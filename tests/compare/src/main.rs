@@ -3,7 +3,8 @@
 //! For each V line: every slice of the message by the real `next_slice` and
 //! `Value::try_from` against `kambelohi_read` at its start; every other offset
 //! against the rules for offsets. For each L line: every answer of the real
-//! `Pages` with its records against `kambelohi_list` on a patterned slice.
+//! `Pages` with its records against `kambelohi_list` on a patterned slice, and
+//! `kambelohi_place` against that, with the counts of the records.
 //! The first difference ends the run with 1, and its case is written to the
 //! file compare-failed.txt. Standard input is one case stream or several, one
 //! after the other; one that is cut or damaged ends the run with 2, and so does
@@ -12,8 +13,10 @@
 //! that can come does not.
 //!
 //! With `--sentences` standard input has no streams but sentences (see
-//! sentences.rs), which are compared with those of `kambelohi_sentence`.
+//! sentences.rs), which are compared with those of `kambelohi_sentence`; with
+//! `--counts` messages and the model's counts (see counts.rs).
 
+mod counts;
 mod kambelohi;
 mod listings;
 mod sentences;
@@ -284,11 +287,14 @@ impl Run {
     }
 }
 
-/// Compare the streams, or the sentences, of standard input
+/// Compare the streams, the sentences or the counts of standard input
 fn compare_all() -> Result<(), Fault> {
     let wants = |name: &str| std::env::args().any(|a| a == name);
     if wants("--sentences") {
         return sentences::compare();
+    }
+    if wants("--counts") {
+        return counts::compare();
     }
     let mut run = Run::default();
     let done = run.lines(wants("--progress"));
