@@ -499,13 +499,13 @@ module _ (w : Walked) where
   settled-ended e = rw e
 
 -- what is gathered for slices that are lent: a answers and k records
-record Fits (a k : ℕ) (msg : List ℕ) (g : Gathered) : Type 0 where
-  answers : length (g .answers) ≤ 1026
-  records : length (g .records) ≤ 2048
-  within : length (g .records) ≤ length msg
-  small : 0 < length (g .records) → length msg ≤ 2048
-  lent-answers : length (unlessRefused (g .refusal) (g .answers)) ≤ a
-  lent-records : length (unlessRefused (g .refusal) (g .records)) ≤ k
+pub record Fits (a k : ℕ) (msg : List ℕ) (g : Gathered) : Type 0 where
+  pub answers : length (g .answers) ≤ 1026
+  pub records : length (g .records) ≤ 2048
+  pub within : length (g .records) ≤ length msg
+  pub small : 0 < length (g .records) → length msg ≤ 2048
+  pub lent-answers : length (unlessRefused (g .refusal) (g .answers)) ≤ a
+  pub lent-records : length (unlessRefused (g .refusal) (g .records)) ≤ k
 
 none-fits : (a k : ℕ) (msg : List ℕ) (r : Refusal) → Fits a k msg (none-but r)
 none-fits a k msg r = record { answers = omega arith; records = omega arith; within = omega arith; small = λ p. absurd (omega arith); lent-answers = omega arith; lent-records = omega arith }
@@ -514,7 +514,7 @@ unless-le : {A : Type 0} (o : Option Refusal) (l : List A) → length (unlessRef
 unless-le none l = omega arith
 unless-le (some r) l = omega arith
 
-gathered-fits : (file msg : List ℕ) (a k : ℕ) → Fits a k msg (gathered file msg a k)
+pub gathered-fits : (file msg : List ℕ) (a k : ℕ) → Fits a k msg (gathered file msg a k)
 unfolding gathered
 gathered-fits file msg a k = look (admission file msg) refl
   where

@@ -1,2 +1,3 @@
+pub mod Calls
 pub mod Few
 pub mod Laws

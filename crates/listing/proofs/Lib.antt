@@ -5,6 +5,7 @@ pub mod Lent
 pub mod Loan
 pub mod Locals
 pub mod Over
+pub mod Pair
 pub mod Placed
 pub mod Thin
 pub mod Through
