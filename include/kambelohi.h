@@ -1,10 +1,10 @@
 /*
  * Kambelohi: the message core of lamp boards.
  *
- * Four calls: kambelohi_read says what stands at an offset of a MULTI message, kambelohi_list where the text of its pages stands
- * on a sign, kambelohi_place the same with two counts, and kambelohi_sentence writes a refusal as an English sentence. Link
- * target/staticlib/libkambelohi.a (x86-64 Linux), which `rt staticlib kambelohi` writes. Of the C library it needs memcpy and
- * memset, and nothing else.
+ * Five calls: kambelohi_read says what stands at an offset of a MULTI message, kambelohi_list where the text of a page stands
+ * on a sign, kambelohi_place the same with two counts, kambelohi_list_all the same of all its pages at once, and
+ * kambelohi_sentence writes a refusal as an English sentence. Link target/staticlib/libkambelohi.a (x86-64 Linux), which
+ * `rt staticlib kambelohi` writes. Of the C library it needs memcpy and memset, and nothing else.
  *
  * What is said here of answers, records and sentences follows from contracts that are proved of the code
  * (crates/kambelohi/src/lib.rt), for any bytes, any lengths, any offset or answer number, and any numbers of a refusal. A call
@@ -16,6 +16,7 @@
  *   writes before the call returns;
  * - if it is that of the lent records: points to span_count of them, may also be written, is aligned as kambelohi_span asks
  *   (2 bytes), and shares no byte with sign file or message, and nobody else reads the records before the call returns;
+ * - if it is that of the lent answers: the same of answer_count answers, which also share no byte with the records;
  * - if it is that of a sentence's buffer: points to buffer_len bytes that may also be written, and that nobody else reads before
  *   the call returns.
  *
@@ -39,6 +40,7 @@ enum {
     KAMBELOHI_READ_STACK = 512,
     KAMBELOHI_LIST_STACK = 155648,
     KAMBELOHI_PLACE_STACK = 155648,
+    KAMBELOHI_LIST_ALL_STACK = 225280,
     KAMBELOHI_SENTENCE_STACK = 704
 };
 
@@ -48,6 +50,9 @@ enum { KAMBELOHI_SIGN_FILE_BYTES = 65535, KAMBELOHI_MESSAGE_BYTES = 2048 };
 /* A lent slice of fewer records is refused with 4, a buffer of fewer bytes with 16. No page, and no sentence, has more of them. */
 enum { KAMBELOHI_RECORDS = 1400, KAMBELOHI_SENTENCE_BYTES = 96 };
 
+/* kambelohi_list_all: fewer answers or records are refused with 4. No message has more of them. */
+enum { KAMBELOHI_ALL_ANSWERS = 1026, KAMBELOHI_ALL_RECORDS = 2048 };
+
 /*
  * The refusals of all calls: number, start, length and detail. What is not said of a refusal is 0.
  *
@@ -56,6 +61,8 @@ enum { KAMBELOHI_RECORDS = 1400, KAMBELOHI_SENTENCE_BYTES = 96 };
  * kambelohi_list and kambelohi_place have 1 to 4 in this order, for every answer number. Then page after page: 5 to 7 by
  * position in the message, up to and with the page's [np]; then pass after pass (a pass ends at [tr], [np] or the end), 6 and 8
  * by position, 9, then 10 to 14 span by span, x before y, and 15.
+ *
+ * kambelohi_list_all has 1 to 4 in this order, and then the first that kambelohi_list has for answers 0, 1 and on.
  *
  * kambelohi_sentence has 16.
  *
@@ -227,6 +234,43 @@ typedef struct {
  */
 kambelohi_place_answer kambelohi_place(const uint8_t *file, size_t file_len, const uint8_t *msg, size_t msg_len, size_t answer,
                                        kambelohi_span *spans, size_t span_count);
+
+/* ---- the whole listing */
+
+/* Kinds of an answer of kambelohi_list_all. */
+enum {
+    KAMBELOHI_ALL_LISTED = 1,   /* answers and records are the counts of what is written */
+    KAMBELOHI_ALL_REFUSED = 2   /* number, start, length and detail of a refusal */
+};
+
+/* An answer of a whole listing. */
+typedef struct {
+    uint16_t kind;      /* KAMBELOHI_ON or KAMBELOHI_OFF */
+    uint16_t duration;  /* tenths of a second */
+    uint16_t first;     /* its records are count ones from number first on; an off answer has none */
+    uint16_t count;
+} kambelohi_shown;
+
+/* What kambelohi_list_all answers. What a kind does not use is 0. */
+typedef struct {
+    uint16_t kind;
+    uint16_t answers;
+    uint16_t records;
+    uint16_t number;
+    uint16_t start;
+    uint16_t length;
+    uint16_t detail;
+} kambelohi_list_all_answer;
+
+/*
+ * Lists all answers of a message on a sign file: the answers are written to the first elements of shown, and their records,
+ * answer after answer, to the first of spans; all others stay as they were, and a refusal writes nothing. Answer n and its records
+ * are those that kambelohi_list gives for n on a slice of KAMBELOHI_RECORDS records or more, and the refusal is the first that it
+ * gives; the end is not counted. The pages are gone through once, where the calls go through those before each.
+ */
+kambelohi_list_all_answer kambelohi_list_all(const uint8_t *file, size_t file_len, const uint8_t *msg, size_t msg_len,
+                                             kambelohi_shown *shown, size_t answer_count, kambelohi_span *spans,
+                                             size_t span_count);
 
 /* ---- the refusal as a sentence */
 

@@ -1,9 +1,10 @@
 //! Times our calls beside the Rust.
 //!
 //! Of each input both sides do the same: read all values of the message; list
-//! all answers of the message, ours by one call for each answer, the Rust by
-//! its iterator over a sign that is built once, raster included. A round times
-//! one side after the other; the ratio of a round is ours to the Rust's.
+//! all answers of the message, ours by one call for each answer and by one call
+//! for the whole listing, the Rust by its iterator over a sign that is built
+//! once, raster included. A round times one side after the other; the ratio of
+//! a round is ours to the Rust's.
 
 #[allow(dead_code)]
 #[path = "../../tests/compare/src/kambelohi.rs"]
@@ -11,7 +12,7 @@ mod kambelohi;
 mod inputs;
 
 use inputs::{Input, inputs};
-use kambelohi::{Span, list, read};
+use kambelohi::{Shown, Span, list, list_all, read};
 use kambelohi_oracle::{Sign, run_values};
 use std::hint::black_box;
 use std::time::{Duration, Instant};
@@ -32,7 +33,7 @@ fn read_all(msg: &[u8]) -> usize {
     }
 }
 
-fn list_all(sign: &[u8], msg: &[u8], spans: &mut [Span]) -> usize {
+fn list_each(sign: &[u8], msg: &[u8], spans: &mut [Span]) -> usize {
     let mut n = 0;
     while list(sign, msg, n, spans).kind < 3 {
         n += 1;
@@ -97,20 +98,27 @@ struct Timed {
     name: &'static str,
     reading: Rounds,
     listing: Rounds,
+    whole: Rounds,
     first: Rounds,
 }
 
-fn timed(input: &Input, spans: &mut [Span]) -> Timed {
+fn timed(input: &Input, shown: &mut [Shown], spans: &mut [Span]) -> Timed {
     let Ok(sign) = Sign::read(&input.sign) else {
         panic!("{}: the sign file is refused", input.name);
     };
     let ms = input.message.as_str();
     let msg = ms.as_bytes();
     let answers = sign.run(ms);
-    assert_eq!(answers, list_all(&input.sign, msg, spans), "{}", input.name);
+    assert_eq!(answers, list_each(&input.sign, msg, spans), "{}", input.name);
+    let all = list_all(&input.sign, msg, shown, spans);
+    assert_eq!((1, answers), (all.kind, all.answers.into()), "{}", input.name);
     let reading = rounds(|| read_all(msg), || run_values(ms));
     let listing =
-        rounds(|| list_all(&input.sign, msg, spans), || sign.run(ms));
+        rounds(|| list_each(&input.sign, msg, spans), || sign.run(ms));
+    let whole = rounds(
+        || usize::from(list_all(&input.sign, msg, shown, spans).answers),
+        || sign.run(ms),
+    );
     let first = rounds(
         || usize::from(list(&input.sign, msg, 0, spans).kind),
         || sign.run(ms),
@@ -123,34 +131,36 @@ fn timed(input: &Input, spans: &mut [Span]) -> Timed {
             .collect(),
     );
     println!(
-        "| {} | {} | {answers} | {} | {} | {} | {} |",
+        "| {} | {} | {answers} | {} | {} | {} | {} | {} |",
         input.name,
         msg.len(),
         reading.ratio(0.0),
         listing.ratio(0.0),
         listing.ratio(check * (answers as f64 + 1.0)),
+        whole.ratio(0.0),
         first.ratio(0.0),
     );
-    Timed { series: input.series, name: input.name, reading, listing, first }
+    Timed { series: input.series, name: input.name, reading, listing, whole, first }
 }
 
 /// How much longer each input of a series takes than the one before it
 fn growth(all: &[Timed]) {
     println!();
-    println!("| from | to | reading, ours | the Rust's | listing, ours | the Rust's | first answer, ours |");
-    println!("|---|---|---|---|---|---|---|");
+    println!("| from | to | reading, ours | the Rust's | listing, ours | in one call | the Rust's | first answer, ours |");
+    println!("|---|---|---|---|---|---|---|---|");
     for pair in all.windows(2) {
         let (a, b) = (&pair[0], &pair[1]);
         if a.series.is_empty() || a.series != b.series {
             continue;
         }
         println!(
-            "| {} | {} | {:.1} | {:.1} | {:.1} | {:.1} | {:.1} |",
+            "| {} | {} | {:.1} | {:.1} | {:.1} | {:.1} | {:.1} | {:.1} |",
             a.name,
             b.name,
             b.reading.ours() / a.reading.ours(),
             b.reading.rust() / a.reading.rust(),
             b.listing.ours() / a.listing.ours(),
+            b.whole.ours() / a.whole.ours(),
             b.listing.rust() / a.listing.rust(),
             b.first.ours() / a.first.ours(),
         );
@@ -158,10 +168,13 @@ fn growth(all: &[Timed]) {
 }
 
 fn main() {
-    let mut spans = vec![Span::default(); 1400];
-    println!("| input | bytes | answers | reading all values | listing all answers | the same without the sign file's check | the first answer alone |");
-    println!("|---|---|---|---|---|---|---|");
-    let all: Vec<Timed> =
-        inputs().iter().map(|input| timed(input, &mut spans)).collect();
+    let mut shown = vec![Shown::default(); 1026];
+    let mut spans = vec![Span::default(); 2048];
+    println!("| input | bytes | answers | reading all values | listing all answers | the same without the sign file's check | the whole listing in one call | the first answer alone |");
+    println!("|---|---|---|---|---|---|---|---|");
+    let all: Vec<Timed> = inputs()
+        .iter()
+        .map(|input| timed(input, &mut shown, &mut spans))
+        .collect();
     growth(&all);
 }

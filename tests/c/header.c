@@ -2,8 +2,8 @@
  * include/kambelohi.h as a C program has it, and as a C++ program: the sizes and offsets of its structs (asserted while it is compiled),
  * and its calls. Its argument is boards/p/sign.bin. It ends with 1 where anything differs.
  *
- * Sign file, message, records and buffer stand each before a page that nobody may touch, so a byte read or written past a length ends the
- * program. Records and buffer are patterned before each call, and what the answer does not count must be as it was.
+ * Sign file, message, answers, records and buffer stand each before a page that nobody may touch, so a byte read or written past a length
+ * ends the program. Answers, records and buffer are patterned before each call, and what the answer does not count must be as it was.
  */
 #define _DEFAULT_SOURCE
 #include "kambelohi.h"
@@ -67,6 +67,21 @@ FIELD(kambelohi_place_answer, detail, 10, 2);
 FIELD(kambelohi_place_answer, looked, 12, 2);
 FIELD(kambelohi_place_answer, spans, 14, 2);
 
+static_assert(sizeof(kambelohi_shown) == 8, "size of kambelohi_shown");
+FIELD(kambelohi_shown, kind, 0, 2);
+FIELD(kambelohi_shown, duration, 2, 2);
+FIELD(kambelohi_shown, first, 4, 2);
+FIELD(kambelohi_shown, count, 6, 2);
+
+static_assert(sizeof(kambelohi_list_all_answer) == 14, "size of kambelohi_list_all_answer");
+FIELD(kambelohi_list_all_answer, kind, 0, 2);
+FIELD(kambelohi_list_all_answer, answers, 2, 2);
+FIELD(kambelohi_list_all_answer, records, 4, 2);
+FIELD(kambelohi_list_all_answer, number, 6, 2);
+FIELD(kambelohi_list_all_answer, start, 8, 2);
+FIELD(kambelohi_list_all_answer, length, 10, 2);
+FIELD(kambelohi_list_all_answer, detail, 12, 2);
+
 static_assert(sizeof(kambelohi_sentence_answer) == 12, "size of kambelohi_sentence_answer");
 FIELD(kambelohi_sentence_answer, kind, 0, 2);
 FIELD(kambelohi_sentence_answer, count, 2, 2);
@@ -100,7 +115,7 @@ static uint8_t *fence(void) {
     return (uint8_t *)map + ROOM;
 }
 
-static uint8_t *file_end, *msg_end, *spans_end, *buffer_end;
+static uint8_t *file_end, *msg_end, *shown_end, *spans_end, *buffer_end;
 
 /* Bytes, lent so that they end where their memory ends. */
 typedef struct {
@@ -241,18 +256,87 @@ static int same(kambelohi_list_answer a, kambelohi_list_answer b) {
            && a.length == b.length && a.detail == b.detail;
 }
 
-/* The whole listing of a message, and that the answers after it are its last. */
+/* What the calls gave: answers, and records one after the other. */
+static kambelohi_shown kept[KAMBELOHI_ALL_ANSWERS];
+static kambelohi_span kept_spans[KAMBELOHI_ALL_RECORDS];
+static size_t kept_count, kept_span_count;
+
+static void keep(kambelohi_list_answer a, size_t lent_count) {
+    kambelohi_shown s;
+    s.kind = a.kind;
+    s.duration = a.duration;
+    s.first = (uint16_t)kept_span_count;
+    s.count = a.count;
+    kept[kept_count++] = s;
+    memcpy(kept_spans + kept_span_count, spans_end - lent_count * sizeof(kambelohi_span), a.count * sizeof(kambelohi_span));
+    kept_span_count += a.count;
+}
+
+/* The call for the whole listing on so many patterned answers and records, and whether those that it does not count are as they were. */
+static kambelohi_list_all_answer call_all(const char *name, lent file, lent msg, size_t answers, size_t count) {
+    static uint8_t pattern[(KAMBELOHI_ALL_RECORDS + 1) * sizeof(kambelohi_span)];
+    size_t size = answers * sizeof(kambelohi_shown), span_size = count * sizeof(kambelohi_span);
+    uint8_t *at = shown_end - size, *span_at = spans_end - span_size;
+    for (size_t i = 0; i < sizeof pattern; i++) {
+        pattern[i] = (uint8_t)(i * 29 + 3);
+    }
+    memcpy(at, pattern, size);
+    memcpy(span_at, pattern, span_size);
+    kambelohi_list_all_answer a = kambelohi_list_all(file.at, file.len, msg.at, msg.len, (kambelohi_shown *)(void *)at, answers,
+                                                     (kambelohi_span *)(void *)span_at, count);
+    size_t written = a.answers * sizeof(kambelohi_shown), span_written = a.records * sizeof(kambelohi_span);
+    must(name, "as many answers and records as are lent", written <= size && span_written <= span_size);
+    must(name, "answers past the count are as they were", memcmp(at + written, pattern + written, size - written) == 0);
+    must(name, "all records past the count are as they were",
+         memcmp(span_at + span_written, pattern + span_written, span_size - span_written) == 0);
+    return a;
+}
+
+/* The whole listing in one call: what was kept of the calls, or their refusal. */
+static void lists_all(const char *name, lent file, lent msg, kambelohi_list_answer last, size_t answers, size_t count) {
+    kambelohi_list_all_answer a = call_all(name, file, msg, answers, count);
+    if (last.kind == KAMBELOHI_LIST_REFUSED) {
+        must(name, "the whole listing is refused as the calls are",
+             a.kind == KAMBELOHI_ALL_REFUSED && a.answers == 0 && a.records == 0 && a.number == last.number && a.start == last.start
+                 && a.length == last.length && a.detail == last.detail);
+        return;
+    }
+    must(name, "the whole listing has the counts of the calls",
+         a.kind == KAMBELOHI_ALL_LISTED && a.answers == kept_count && a.records == kept_span_count && a.number == 0 && a.start == 0
+             && a.length == 0 && a.detail == 0);
+    must(name, "the whole listing has the answers of the calls",
+         memcmp(shown_end - answers * sizeof(kambelohi_shown), kept, kept_count * sizeof(kambelohi_shown)) == 0);
+    must(name, "the whole listing has the records of the calls",
+         memcmp(spans_end - count * sizeof(kambelohi_span), kept_spans, kept_span_count * sizeof(kambelohi_span)) == 0);
+}
+
+/* Slices that are too short for a whole listing: 4, after 1 to 3. */
+static void short_all(const char *name, lent file, lent msg, size_t answers, size_t count, int number) {
+    kambelohi_list_all_answer a = call_all(name, file, msg, answers, count);
+    say("%d %d %d %d %d %d %d;", a.kind, a.answers, a.records, a.number, a.start, a.length, a.detail);
+    char want[80];
+    snprintf(want, sizeof want, "2 0 0 %d 0 0 0;", number);
+    must_be(name, want);
+}
+
+/* The whole listing of a message, that the answers after it are its last, and that it is the same in one call. */
 static void lists(const char *name, lent file, lent msg, const char *want) {
     size_t n = 0;
     kambelohi_list_answer a;
+    kept_count = kept_span_count = 0;
     do {
         size_t count = KAMBELOHI_RECORDS + n % 2;
         a = call(name, file, msg, n, count);
         say_answer(a);
         say_spans(count, a.kind == KAMBELOHI_ON ? a.count : 0);
+        if (a.kind == KAMBELOHI_ON || a.kind == KAMBELOHI_OFF) {
+            keep(a, count);
+        }
         n++;
     } while (a.kind == KAMBELOHI_ON || a.kind == KAMBELOHI_OFF);
     must_be(name, want);
+    lists_all(name, file, msg, a, KAMBELOHI_ALL_ANSWERS, KAMBELOHI_ALL_RECORDS + 1);
+    lists_all(name, file, msg, a, KAMBELOHI_ALL_ANSWERS + 1, KAMBELOHI_ALL_RECORDS);
     must(name, "the last answer is the end or a refusal", a.kind == KAMBELOHI_LAST || a.kind == KAMBELOHI_LIST_REFUSED);
     must(name, "the answer after the last is the last", same(a, call(name, file, msg, n, KAMBELOHI_RECORDS)));
     must(name, "the last number has the last answer", same(a, call(name, file, msg, SIZE_MAX, MOST)));
@@ -286,6 +370,13 @@ static void worked_boards(lent p) {
     lists("the listing in full", p, lend_text("[pt10o5]A[np]B"),
           "1 10 1 0 0 0 0; (t 8 1 0, 0 0 5 7, 1 0 0, 1 1 50 24)2 5 0 0 0 0 0;"
           "1 10 1 0 0 0 0; (t 13 1 0, 0 0 6 7, 1 0 0, 1 1 50 24)2 5 0 0 0 0 0;3 0 4 0 0 0 0;");
+    lent most = lend_times(511, "[np]");
+    char want[32 * 1026 + 32] = "";
+    for (size_t i = 0; i < 512; i++) {
+        strcat(want, "1 30 0 0 0 0 0;");
+    }
+    strcat(want, "3 0 512 0 0 0 0;");
+    lists("512 pages", p, most, want);
     lists("a page before a refusal", p, lend_text("A[np][fo9]B"),
           "1 30 1 0 0 0 0; (t 0 1 0, 0 0 5 7, 1 0 0, 1 1 50 24)4 0 0 10 10 1 9;");
 }
@@ -359,6 +450,14 @@ static void short_slices(lent p) {
         short_call("a short slice and no sign file", none, lend_text("A"), 0, counts[i], KAMBELOHI_SIGN_FILE);
         short_call("a short slice and 2,049 bytes", p, lend_times(2049, "A"), 0, counts[i], KAMBELOHI_TOO_LONG);
         short_call("a short slice and ill-formed", p, lend_text("\xff"), 0, counts[i], KAMBELOHI_ILL_FORMED);
+    }
+    const size_t rooms[][2] = {{KAMBELOHI_ALL_ANSWERS - 1, KAMBELOHI_ALL_RECORDS}, {KAMBELOHI_ALL_ANSWERS, KAMBELOHI_ALL_RECORDS - 1}, {0, 0}};
+    for (size_t i = 0; i < sizeof rooms / sizeof rooms[0]; i++) {
+        short_all("short slices", p, lend_text("A[np]A"), rooms[i][0], rooms[i][1], KAMBELOHI_BAD_CALL);
+        short_all("short slices, a message that is refused", p, lend_text("[xx]"), rooms[i][0], rooms[i][1], KAMBELOHI_BAD_CALL);
+        short_all("short slices and no sign file", none, lend_text("A"), rooms[i][0], rooms[i][1], KAMBELOHI_SIGN_FILE);
+        short_all("short slices and 2,049 bytes", p, lend_times(2049, "A"), rooms[i][0], rooms[i][1], KAMBELOHI_TOO_LONG);
+        short_all("short slices and ill-formed", p, lend_text("\xff"), rooms[i][0], rooms[i][1], KAMBELOHI_ILL_FORMED);
     }
 }
 
@@ -515,6 +614,7 @@ int main(int argc, char **argv) {
     fclose(in);
     file_end = fence();
     msg_end = fence();
+    shown_end = fence();
     spans_end = fence();
     buffer_end = fence();
     worked_boards(lend(file_end, sign, len));

@@ -7,7 +7,8 @@
  * most of all cases must be above three quarters of what the header says, so that the header says neither too little nor far too much.
  *
  * An L line, for the listing and the placing call: every answer up to the end or a refusal, the two after it, the last number there is, and
- * a slice of too few records. A V line, and the message of an L line: the reading call at every offset, past the end, and at the last number there is.
+ * a slice of too few records; and the whole listing in one call, also on slices of too few answers and records. A V line, and the message
+ * of an L line: the reading call at every offset, past the end, and at the last number there is.
  * Before the first line, as line 0: the sentences of all numbers with places of one to five digits, and a buffer of too few bytes. Every
  * refusal of each call must have come.
  */
@@ -26,7 +27,7 @@
 enum { LITTLE = 64, PAGE = 4096, PAINT = 0xa5 };
 
 /* A thread's stack: what the call takes, and more than the thread itself takes. */
-enum { STACK_SIZE = (KAMBELOHI_LIST_STACK / PAGE + 32) * PAGE };
+enum { STACK_SIZE = (KAMBELOHI_LIST_ALL_STACK / PAGE + 32) * PAGE };
 
 /* Of a call: its name, what the header says that it takes, the most that it took, how often it was called and refused. */
 typedef struct {
@@ -40,13 +41,15 @@ typedef struct {
 static measure reading = {"kambelohi_read", KAMBELOHI_READ_STACK, 0, 0, {0}};
 static measure listing = {"kambelohi_list", KAMBELOHI_LIST_STACK, 0, 0, {0}};
 static measure placing = {"kambelohi_place", KAMBELOHI_PLACE_STACK, 0, 0, {0}};
+static measure whole = {"kambelohi_list_all", KAMBELOHI_LIST_ALL_STACK, 0, 0, {0}};
 static measure telling = {"kambelohi_sentence", KAMBELOHI_SENTENCE_STACK, 0, 0, {0}};
 
 /* The case at hand. */
 static size_t line_number;
 static uint8_t *file, *msg;
 static size_t file_len, msg_len;
-static kambelohi_span spans[KAMBELOHI_RECORDS];
+static kambelohi_shown shown[KAMBELOHI_ALL_ANSWERS];
+static kambelohi_span spans[KAMBELOHI_ALL_RECORDS];
 
 /* The lowest byte of the stack that may be touched, the one below which the calls of a case are made, and what an overrun says. */
 static unsigned char *floor_at;
@@ -106,6 +109,17 @@ static __attribute__((noinline)) void place_all(void) {
     }
 }
 
+static __attribute__((noinline)) void list_whole(void) {
+    GIVE_AWAY(KAMBELOHI_LIST_ALL_STACK);
+    for (size_t n = 0; n < 3; n++) {
+        /* on slices of as many as are asked, of an answer less, and of a record less */
+        kambelohi_list_all_answer a = kambelohi_list_all(file, file_len, msg, msg_len, shown, KAMBELOHI_ALL_ANSWERS - (n == 1), spans,
+                                                         KAMBELOHI_ALL_RECORDS - (n == 2));
+        whole.calls++;
+        whole.refusals[a.number % 32]++;
+    }
+}
+
 static __attribute__((noinline)) void tell_all(void) {
     static const uint16_t places[] = {0, 9, 10, 99, 100, 999, 1000, 9999, 10000, 65535};
     static uint8_t buffer[KAMBELOHI_SENTENCE_BYTES];
@@ -134,6 +148,8 @@ static void *run(void *all) {
         list_all();
     } else if (all == &placing) {
         place_all();
+    } else if (all == &whole) {
+        list_whole();
     } else if (all == &telling) {
         tell_all();
     } else {
@@ -193,6 +209,7 @@ static void line(const char *text) {
         if (text[0] == 'L') {
             take(&listing);
             take(&placing);
+            take(&whole);
         }
         free(msg);
     } else if (strchr("IDXQke", text[0]) == NULL) {
@@ -239,5 +256,5 @@ int main(void) {
     }
     free(text);
     free(file);
-    return judge(&reading, 2, 7) | judge(&listing, 1, 15) | judge(&placing, 1, 15) | judge(&telling, 16, 16);
+    return judge(&reading, 2, 7) | judge(&listing, 1, 15) | judge(&placing, 1, 15) | judge(&whole, 1, 15) | judge(&telling, 16, 16);
 }

@@ -45,7 +45,7 @@ use Rattle.every.specs.declared.Walked.{Walked}
 use Rattle.every.specs.declared.AllCount.{AllCount}
 use Rattle.every.specs.declared.Counts.the-variants.{Listed, Refused}
 use Rattle.every.specs.All.{shown, answersIn, recordsIn, refusalIn, Gathered, gather, none-but, gatheredOn, gathered, countsOf, unlessRefused}
-use Rattle.every.specs.Walk.{recordsFrom, shownNumbers, shownFrom, shownAt, shownsOf, ShownRoom, ShownPut, Countable, shownBy, ShownAs, AllRoom, Walkable, WalkAsked, behind, BehindAsked, BehindRead, walkedTo, told, Walks, WalksWith, LongRoom, Gathers, settledOn, settledBy, Settles}
+use Rattle.every.specs.Walk.{recordsFrom, shownNumbers, shownFrom, shownAt, shownsOf, ShownRoom, ShownPut, Countable, shownBy, ShownAs, AllRoom, Walkable, WalkAsked, walkedTo, told, Walks, WalksWith, LongRoom, Gathers, settledOn, settledBy, Settles}
 use Rattle.every.proofs.Few.{answers-few, records-few}
 
 -- ---- rows of numbers at the start of a list
@@ -182,6 +182,23 @@ spans-join l n k =
     ∙ cells-from (spanAt l) (spanAt (drop (15 * n) l)) 0 n k (λ j.
     ap (λ (m : ℕ). spanFrom (take 15 (drop m l))) (let e : 15 * (n + j) ≡ 15 * n + 15 * j = omega arith in e)
     ∙ ap (λ (x : List ℕ). spanFrom (take 15 x)) (sym (drop-drop (15 * j) (15 * n) l))))
+
+-- where record n stands
+abbrev pub behind : ℕ → ℕ
+behind n = recordsFrom + spanWidth * n
+
+-- an answer can be read, its records behind n others
+pub record BehindAsked (file : List ℕ) (table : SignFile) (msg : List ℕ) (p : Pages) (rows all : List ℕ) (n : ℕ) : Type 0 where
+  pub asked : WalkAsked file table msg rows all
+  pub stands : InMessage (table .config) (length msg) p
+  pub few : n ≤ length msg
+
+-- it was, and is r; rows and all were there before it, and rows′ and all′ are after it
+pub record BehindRead (file : List ℕ) (table : SignFile) (msg : List ℕ) (p : Pages) (rows all : List ℕ) (n : ℕ) (rows′ all′ : List ℕ) (r : NextPage)
+    : Type 0 where
+  pub read : NextRead file table msg p rows (drop (behind n) all) rows′ (drop (behind n) all′) (p .«page_state») r
+  pub kept : take (behind n) all′ ≡ take (behind n) all
+  pub long : length all′ ≡ length all
 
 -- a tail y of a list, put back
 module _ (all : List ℕ) (n : ℕ) (h : behind n ≤ length all) (y : List ℕ) (e : length y ≡ length (drop (behind n) all)) where

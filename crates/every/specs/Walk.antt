@@ -4,7 +4,7 @@ use mathlib.Core.Path.{_≡_}
 use mathlib.Core.Option.{Option, none, some}
 use mathlib.Core.List.{List, [], _∷_, _++_}
 use lib.Dec.{ltb}
-use lib.ListN.{length, getD, take, drop}
+use lib.ListN.{length, getD, drop}
 use Rattle.base.specs.Pick.{pick}
 use Rattle.refusal.specs.declared.Refusal.{Refusal}
 use Rattle.refusal.specs.declared.OptRefusal.{OptRefusal}
@@ -17,10 +17,8 @@ use Rattle.layout.specs.Listing.{Page, pages}
 use Rattle.page.specs.Scan.{faultIs}
 use Rattle.rows.specs.Rows.{cells, cellsAt, spanWidth, RowRoom, SpanRoom, spansOf}
 use Rattle.meter.specs.Gauges.{AcceptedTable}
-use Rattle.pages.specs.declared.Pages.{Pages}
 use Rattle.pages.specs.declared.PageShown.{PageShown}
-use Rattle.pages.specs.declared.NextPage.{NextPage}
-use Rattle.pages.specs.Pages.{boardIn, InMessage, NextRead}
+use Rattle.pages.specs.Pages.{boardIn}
 use Rattle.every.specs.declared.Shown.{Shown}
 use Rattle.every.specs.declared.Walked.{Walked}
 use Rattle.every.specs.declared.Counts.{Counts}
@@ -87,23 +85,6 @@ pub record Walkable (file : List ℕ) (table : SignFile) (msg all : List ℕ) : 
 pub record WalkAsked (file : List ℕ) (table : SignFile) (msg rows all : List ℕ) : Type 0 where
   pub walkable : Walkable file table msg all
   pub rowed : RowRoom (length msg) rows
-
--- where record n stands
-abbrev pub behind : ℕ → ℕ
-behind n = recordsFrom + spanWidth * n
-
--- an answer can be read, its records behind n others
-pub record BehindAsked (file : List ℕ) (table : SignFile) (msg : List ℕ) (p : Pages) (rows all : List ℕ) (n : ℕ) : Type 0 where
-  pub asked : WalkAsked file table msg rows all
-  pub stands : InMessage (table .config) (length msg) p
-  pub few : n ≤ length msg
-
--- it was, and is r; rows and all were there before it, and rows′ and all′ are after it
-pub record BehindRead (file : List ℕ) (table : SignFile) (msg : List ℕ) (p : Pages) (rows all : List ℕ) (n : ℕ) (rows′ all′ : List ℕ) (r : NextPage)
-    : Type 0 where
-  pub read : NextRead file table msg p rows (drop (behind n) all) rows′ (drop (behind n) all′) (p .«page_state») r
-  pub kept : take (behind n) all′ ≡ take (behind n) all
-  pub long : length all′ ≡ length all
 
 abbrev pub refusedBy : Option Refusal → OptRefusal
 refusedBy none = None

@@ -5,11 +5,10 @@ ghost use lib.ListN.{length, drop};
 ghost use mathlib.Core.Option.{none, some};
 ghost use Rattle.refusal.specs.Refusals.{refusal as refusalOf};
 ghost use Rattle.rows.specs.Rows.{spanAt};
-ghost use Rattle.every.specs.Walk.{shownFrom, shownAt, ShownRoom, ShownPut, Countable, ShownAs, walkedTo, BehindAsked, BehindRead, WalkAsked, Walkable, Walks, WalksWith, LongRoom, Gathers, settledBy, Settles};
+ghost use Rattle.every.specs.Walk.{shownFrom, shownAt, ShownRoom, ShownPut, Countable, ShownAs, walkedTo, WalkAsked, Walkable, Walks, WalksWith, LongRoom, Gathers, settledBy, Settles};
 use layout::Span;
 use pages::NextPage;
 use pages::PageShown;
-use pages::Pages;
 use refusal::OptRefusal;
 use refusal::Refusal;
 use sign::SignFile;
@@ -138,25 +137,7 @@ fn no_room() -> Walked
     stopped(0, 0, r)
 }
 
-// The next answer, its records behind n others.
-fn next_behind(
-    file: &[u8],
-    table: SignFile,
-    msg: &[u8],
-    p: Pages,
-    rows: &mut [u16],
-    all: &mut [u16],
-    n: usize,
-) -> NextPage
-    requires { ⌜ BehindAsked (now file) table (now msg) p (now rows) (now all) n ⌝ }
-    ensures { λ r. ⌜ BehindRead (now (file .entry)) table (now (msg .entry)) p (now (rows .entry)) (now (all .entry)) n
-        (now (rows .exit)) (now (all .exit)) r ⌝ }
-{
-    let from = RECORDS + rows::SPAN_WIDTH * n;
-    pages::next(file, table, msg, p, rows, &mut all[from..])
-}
-
-// Answer after answer, up to the end or the first refusal.
+// Answer after answer, up to the end or the first refusal: each has the array behind the records of those before.
 fn walk(file: &[u8], table: SignFile, msg: &[u8], rows: &mut [u16], all: &mut [u16]) -> Walked
     requires { ⌜ WalkAsked (now file) table (now msg) (now rows) (now all) ⌝ }
     ensures { λ r. ⌜ Walks (now (file .entry)) table (now (msg .entry)) (now (all .entry)) (now (all .exit)) r ⌝ }
@@ -165,7 +146,8 @@ fn walk(file: &[u8], table: SignFile, msg: &[u8], rows: &mut [u16], all: &mut [u
     let mut i: usize = 0;
     let mut n: usize = 0;
     loop {
-        match next_behind(file, table, msg, p, rows, all, n) {
+        let from = RECORDS + rows::SPAN_WIDTH * n;
+        match pages::next(file, table, msg, p, rows, &mut all[from..]) {
             NextPage::Page(q, x) => {
                 let s = shown_by(x, n);
                 put_shown(all, i, s);

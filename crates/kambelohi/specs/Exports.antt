@@ -11,6 +11,9 @@ use Rattle.layout.specs.declared.Answer.the-variants.{On, Off, End as LastEnd, 
 use Rattle.kambelohi.specs.declared.ListAnswer.{ListAnswer}
 use Rattle.counts.specs.declared.Placed.{Placed}
 use Rattle.kambelohi.specs.declared.PlaceAnswer.{PlaceAnswer}
+use Rattle.every.specs.declared.Counts.{Counts}
+use Rattle.every.specs.declared.Counts.the-variants.{Listed, Refused as RefusedAll}
+use Rattle.kambelohi.specs.declared.ListAllAnswer.{ListAllAnswer}
 use Rattle.sentence.specs.declared.Told.{Told}
 use Rattle.sentence.specs.declared.Told.the-variants.{Length, Refused as RefusedTo}
 use Rattle.kambelohi.specs.declared.SentenceAnswer.{SentenceAnswer}
@@ -50,6 +53,11 @@ placeBy (RefusedBy f) j m = refusedPlace f j m
 
 abbrev pub placeAnswer : Placed → PlaceAnswer
 placeAnswer p = placeBy (p .answer) (p .looked) (p .spans)
+
+-- a whole listing is 1, a refusal 2
+abbrev pub listAllAnswer : Counts → ListAllAnswer
+listAllAnswer (Listed a k) = record { kind = 1; answers = a; records = k; number = 0; start = 0; length = 0; detail = 0 }
+listAllAnswer (RefusedAll f) = record { kind = 2; answers = 0; records = 0; number = f .number; start = f .start; length = f .length; detail = f .detail }
 
 -- a sentence is 1, a refusal 2
 abbrev pub sentenceAnswer : Told → SentenceAnswer

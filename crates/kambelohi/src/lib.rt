@@ -1,12 +1,16 @@
 // What C and Rust link: the calls, with structs of numbers for answers. include/kambelohi.h says the same in C.
 ghost use mathlib.Core.Path.{_≡_};
+ghost use Rattle.every.specs.All.{listingAll as allOf, answersAfter as answersOf, recordsAfter as recordsOf};
 ghost use Rattle.layout.specs.Listing.{listing as listingOf, after as afterOf};
 ghost use Rattle.counts.specs.Placing.{placing as placingOf};
-ghost use Rattle.kambelohi.specs.Exports.{readAnswer, plainAnswer, listAnswer, plainPlace, refusedPlace, placeAnswer, sentenceAnswer};
+ghost use Rattle.kambelohi.specs.Exports.{readAnswer, plainAnswer, listAnswer, plainPlace, refusedPlace, placeAnswer, listAllAnswer};
+ghost use Rattle.kambelohi.specs.Exports.{sentenceAnswer};
 ghost use Rattle.reading.specs.Reading.{reading as readingOf};
 ghost use Rattle.refusal.specs.Refusals.{refusal as refusalOf};
 ghost use Rattle.sentence.specs.Sentence.{telling as tellingOf, bufferAfter as bufferOf};
 use counts::Placed;
+use every::Counts;
+use every::Shown;
 use layout::Answer;
 use layout::Span;
 use reading::Reading;
@@ -208,6 +212,59 @@ pub extern "C" fn kambelohi_place(
         × (now (recs .exit) ≡ afterOf (now (file .entry)) (now (message .entry)) answer (now (recs .entry))) ⌝ }
 {
     place_answer(listing::place(file, message, answer, recs))
+}
+
+// An answer of kambelohi_list_all. kind: 1 the whole listing is written, 2 a refusal. Of a listing: how many answers and how many records; of a
+// refusal: number, start, length and detail. What a kind does not use is 0.
+#[repr(C)]
+pub struct ListAllAnswer {
+    pub kind: u16,
+    pub answers: u16,
+    pub records: u16,
+    pub number: u16,
+    pub start: u16,
+    pub length: u16,
+    pub detail: u16,
+}
+
+fn list_all_answer(c: Counts) -> ListAllAnswer
+    ensures { λ r. ⌜ r ≡ listAllAnswer c ⌝ }
+{
+    match c {
+        Counts::Listed(answers, records) => ListAllAnswer {
+            kind: 1,
+            answers,
+            records,
+            number: 0,
+            start: 0,
+            length: 0,
+            detail: 0,
+        },
+        Counts::Refused(f) => ListAllAnswer {
+            kind: 2,
+            answers: 0,
+            records: 0,
+            number: base::wide16(f.number),
+            start: f.start,
+            length: f.length,
+            detail: f.detail,
+        },
+    }
+}
+
+// The whole listing: sign file, message, the lent slice of answers and that of records.
+#[no_mangle]
+pub extern "C" fn kambelohi_list_all(
+    file: &[u8],
+    message: &[u8],
+    answers: &mut [Shown],
+    recs: &mut [Span],
+) -> ListAllAnswer
+    ensures { λ r. ⌜ (r ≡ listAllAnswer (allOf (now (file .entry)) (now (message .entry)) (now (answers .entry)) (now (recs .entry))))
+        × (now (answers .exit) ≡ answersOf (now (file .entry)) (now (message .entry)) (now (answers .entry)) (now (recs .entry)))
+        × (now (recs .exit) ≡ recordsOf (now (file .entry)) (now (message .entry)) (now (answers .entry)) (now (recs .entry))) ⌝ }
+{
+    list_all_answer(whole::list_all(file, message, answers, recs))
 }
 
 // An answer of kambelohi_sentence. kind: 1 the sentence is written, 2 a refusal. Of a sentence: how many bytes; of a refusal: number, start,

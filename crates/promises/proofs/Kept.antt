@@ -7,6 +7,7 @@ use Rattle.layout.proofs.Checks.{answer-on}
 use Rattle.layout.proofs.Calls.{demand3}
 use Rattle.layout.proofs.Bounds.{bounded}
 use Rattle.counts.proofs.Page.{page-counts}
+use Rattle.every.proofs.Calls.{whole-listing}
 use Rattle.sentence.proofs.Recovers.{sentenced, worded}
 use Rattle.promises.specs.Promises.{Promises}
 
@@ -18,6 +19,7 @@ promises =
       refusals-change-nothing = λ file msg. (bounded file msg) .unchanged;
       demand-3 = demand3;
       bounds = bounded;
+      whole-listing = whole-listing;
       worked-boards = boards;
       sentences = sentenced;
       words = worded;

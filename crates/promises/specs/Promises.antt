@@ -1,6 +1,7 @@
 -- What is promised of the product, in one reading: each line is a theorem, for every sign file, every message and every lent slice. All of it speaks of
--- `listing` and `after`, which by the contract of `list` (crates/listing/src/lib.rt) are the answer of the call that runs and the slice that it leaves;
--- the lines of requests of document 02, A1 and on, of what they say.
+-- `listing` and `after`, which by the contract of `list` (crates/listing/src/lib.rt) are the answer of the call that runs and the slice that it leaves; of the
+-- whole listing in one call, `list_all` (crates/whole/src/lib.rt), it is said that it gives the same; the lines of requests of document 02, A1 and on, of
+-- what they say.
 use Prim.Native.Nat.{ℕ, _<_}
 use mathlib.Core.Path.{_≡_}
 use mathlib.Core.List.{List}
@@ -16,6 +17,8 @@ use Rattle.layout.specs.Demand.{Whole, Demand3}
 use Rattle.layout.specs.Bounds.{Bounded}
 use Rattle.layout.specs.Boards.{Boards}
 use Rattle.counts.specs.Page.{PageCounts}
+use Rattle.every.specs.declared.Shown.{Shown}
+use Rattle.every.specs.Calls.{WholeListing}
 use Rattle.sentence.specs.Recovered.{Sentenced, Worded}
 
 pub record Promises : Type 0 where
@@ -33,6 +36,9 @@ pub record Promises : Type 0 where
   -- of every call, refused or not: the listing ends within "2 × (number of [np] + 1) answers", a page has at most 1,400 records, the slice keeps its length,
   -- a refusal stays, and its place lies within the message or the sign file
   pub bounds : (file msg : List ℕ) → Bounded file msg
+  -- the whole listing in one call: its answers and records are those of the calls one by one, so that demand 3 speaks of them too; it needs at most 1,026
+  -- answers and 2,048 records; a refusal is the first of the calls, and changes nothing
+  pub whole-listing : (file msg : List ℕ) (answers : List Shown) (recs : List Span) → WholeListing file msg answers recs
   -- document 01's worked boards, and those that catch other readings of its rules
   pub worked-boards : Boards
   -- A1, of a refusal whose "number has 8 bits, the others 16": its sentence has at most 96 bytes, is ASCII "ended by the only full stop", and "From the

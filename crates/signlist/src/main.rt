@@ -2,13 +2,12 @@
 // read, then each answer: on and its duration, with a line for each span (start, length, x, y, width, height, font); off and its duration;
 // the end with the count of answers; or a refusal with number, start, length and detail, which ends the listing.
 ghost use mathlib.Core.Path.{_≡_};
-ghost use Prim.Native.Nat.{_*_};
 ghost use lib.ListN.{length};
-ghost use Rattle.rows.specs.Rows.{spanWidth};
-use layout::Answer;
+use every::Shown;
 use layout::Span;
 use libc::STDIN_FILENO;
 use libc::STDOUT_FILENO;
+use refusal::OptRefusal;
 use refusal::Refusal;
 
 fn print_next(n: u16) {
@@ -40,69 +39,70 @@ fn print_refusal(r: Refusal) {
     end_line();
 }
 
-// The first count spans of the slice.
-fn print_spans(out: &[u16], count: usize)
-    requires { ⌜ length (now out) ≡ spanWidth * 2048 ⌝ }
+// The count records from number first on.
+fn print_spans(all: &[u16], first: u16, count: u16)
+    requires { ⌜ length (now all) ≡ 65544 ⌝ }
 {
-    let mut i: usize = 0;
-    while i < count {
+    let mut i = first as usize;
+    let end = i + count as usize;
+    while i < end {
         if 2048 <= i {
             return;
         }
-        print_span(rows::span_at(out, i));
+        print_span(every::record_at(all, i));
         i += 1;
     }
 }
 
-fn print_on(duration: u16, count: u16, out: &[u16])
-    requires { ⌜ length (now out) ≡ spanWidth * 2048 ⌝ }
+fn print_answer(s: Shown, all: &[u16])
+    requires { ⌜ length (now all) ≡ 65544 ⌝ }
 {
-    io::write_all(STDOUT_FILENO, b"on");
-    print_next(duration);
-    end_line();
-    print_spans(out, count as usize);
-}
-
-// Prints an answer, and tells whether others follow.
-fn print_answer(a: Answer, out: &[u16]) -> bool
-    requires { ⌜ length (now out) ≡ spanWidth * 2048 ⌝ }
-{
-    match a {
-        Answer::On(duration, count) => {
-            print_on(duration, count, out);
-            true
-        }
-        Answer::Off(duration) => {
-            io::write_all(STDOUT_FILENO, b"off");
-            print_next(duration);
-            end_line();
-            true
-        }
-        Answer::End(count) => {
-            io::write_all(STDOUT_FILENO, b"end");
-            print_next(count);
-            end_line();
-            false
-        }
-        Answer::Refused(r) => {
-            print_refusal(r);
-            false
-        }
+    if s.kind == 1 {
+        io::write_all(STDOUT_FILENO, b"on");
+        print_next(s.duration);
+        end_line();
+        print_spans(all, s.first, s.count);
+        return;
     }
+    io::write_all(STDOUT_FILENO, b"off");
+    print_next(s.duration);
+    end_line();
 }
 
-// Prints answer after answer; a message has at most 1,026.
-fn print_all(file: &[u8], msg: &[u8], out: &mut [u16])
-    requires { ⌜ length (now out) ≡ spanWidth * 2048 ⌝ }
+// The first count answers of the slice; a message has at most 1,026.
+fn print_answers(all: &[u16], count: usize)
+    requires { ⌜ length (now all) ≡ 65544 ⌝ }
 {
     let mut i: usize = 0;
-    while i < 65536 {
-        let a = answer::compute(file, msg, i, 1400, out);
-        if !print_answer(a, out) {
+    while i < count {
+        if 1026 <= i {
             return;
         }
+        print_answer(every::shown_at(all, i), all);
         i += 1;
     }
+}
+
+// What comes after the answers: the end with their count, or a refusal.
+fn print_last(count: usize, refused: OptRefusal) {
+    match refused {
+        OptRefusal::Some(r) => print_refusal(r),
+        OptRefusal::None => {
+            io::write_all(STDOUT_FILENO, b"end ");
+            io::print_decimal(STDOUT_FILENO, count as u64);
+            end_line();
+        }
+    }
+}
+
+// Prints answer after answer, from one walk over the pages.
+fn print_all(file: &[u8], msg: &[u8], all: &mut [u16])
+    requires { ⌜ length (now all) ≡ 65544 ⌝ }
+{
+    let w = every::gather(file, msg, 1026, 2048, all);
+    print_answers(all, w.answers);
+    let refused = w.refused;
+    print_last(w.answers, refused);
 }
 
 fn main() {
@@ -113,6 +113,6 @@ fn main() {
     io::write_all(STDOUT_FILENO, b"message ");
     io::print_decimal(STDOUT_FILENO, k as u64);
     end_line();
-    let mut out = [0u16; rows::SPAN_ROOM];
-    print_all(&sign[..n], &message[..k], &mut out);
+    let mut all = [0u16; 65544];
+    print_all(&sign[..n], &message[..k], &mut all);
 }

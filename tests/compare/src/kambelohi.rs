@@ -118,6 +118,65 @@ pub fn place(file: &[u8], msg: &[u8], answer: usize, spans: &mut [Span]) -> Plac
     }
 }
 
+/// An answer of a whole listing, as `include/kambelohi.h` has it: kind (1 on,
+/// 2 off), duration, the number of its first record, and how many it has
+#[repr(C)]
+#[derive(Clone, Copy, Debug, Default, Eq, PartialEq)]
+pub struct Shown {
+    pub kind: u16,
+    pub duration: u16,
+    pub first: u16,
+    pub count: u16,
+}
+
+/// What the call for a whole listing answers
+#[repr(C)]
+#[derive(Clone, Copy, Debug, Default, Eq, PartialEq)]
+pub struct ListAllAnswer {
+    pub kind: u16,
+    pub answers: u16,
+    pub records: u16,
+    pub number: u16,
+    pub start: u16,
+    pub length: u16,
+    pub detail: u16,
+}
+
+unsafe extern "C" {
+    fn kambelohi_list_all(
+        file: *const u8,
+        file_len: usize,
+        msg: *const u8,
+        msg_len: usize,
+        answers: *mut Shown,
+        answer_count: usize,
+        spans: *mut Span,
+        span_count: usize,
+    ) -> ListAllAnswer;
+}
+
+/// List all answers of a message on a sign file, with all their records
+pub fn list_all(
+    file: &[u8],
+    msg: &[u8],
+    answers: &mut [Shown],
+    spans: &mut [Span],
+) -> ListAllAnswer {
+    // The call takes any bytes and slices.
+    unsafe {
+        kambelohi_list_all(
+            file.as_ptr(),
+            file.len(),
+            msg.as_ptr(),
+            msg.len(),
+            answers.as_mut_ptr(),
+            answers.len(),
+            spans.as_mut_ptr(),
+            spans.len(),
+        )
+    }
+}
+
 /// An answer of the sentence call
 #[repr(C)]
 #[derive(Clone, Copy, Debug, Default, Eq, PartialEq)]

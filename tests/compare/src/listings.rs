@@ -100,12 +100,12 @@ impl Spread {
 }
 
 /// A record that no call writes
-fn pattern(i: usize) -> Span {
+pub fn pattern(i: usize) -> Span {
     let k = (i % 60000) as u16;
     Span([k, !k, 7, k, !k, 9, k, 1, 2, 3, !k, 5, k, 8, 13])
 }
 
-fn numbers(r: &Record) -> Span {
+pub fn numbers(r: &Record) -> Span {
     let [rx, ry, rw, rh] = r.rectangle;
     Span([
         r.kind.into(),

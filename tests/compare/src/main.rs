@@ -4,7 +4,8 @@
 //! `Value::try_from` against `kambelohi_read` at its start; every other offset
 //! against the rules for offsets. For each L line: every answer of the real
 //! `Pages` with its records against `kambelohi_list` on a patterned slice, and
-//! `kambelohi_place` against that, with the counts of the records.
+//! `kambelohi_place` against that, with the counts of the records; all of them
+//! together against `kambelohi_list_all`.
 //! The first difference ends the run with 1, and its case is written to the
 //! file compare-failed.txt. Standard input is one case stream or several, one
 //! after the other; one that is cut or damaged ends the run with 2, and so does
@@ -21,6 +22,7 @@ mod kambelohi;
 mod listings;
 mod sentences;
 mod stops;
+mod whole;
 
 use kambelohi::{ReadAnswer, Span, read};
 use kambelohi_oracle::values;
@@ -162,6 +164,7 @@ struct Run {
     hex: Option<String>,
     sign: Vec<u8>,
     slice: Vec<Span>,
+    lent: whole::Lent,
 }
 
 /// What ends a run before its time
@@ -184,6 +187,7 @@ impl Run {
         let n = 1400 + self.spread.listings % 4;
         let slice = &mut self.slice[..n];
         listings::compare(&self.sign, msg, slice, &mut self.spread)?;
+        whole::compare(&self.sign, msg, &mut self.lent, self.spread.listings)?;
         if self.spread.listings % 8 == 0 {
             listings::compare_rest(&self.sign, msg, slice)?;
         }
