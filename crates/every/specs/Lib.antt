@@ -1,3 +1,4 @@
 pub mod All
 pub mod Calls
+pub mod Examples
 pub mod Walk
