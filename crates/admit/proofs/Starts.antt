@@ -12,11 +12,12 @@ use borrow.Author.Tests.{ltb-false}
 use Rattle.base.specs.Pick.{pick}
 use Rattle.records.specs.Config.{isConfig}
 use Rattle.records.specs.Record.{littleAt, whole, Piece, Record, CutShort, firstPiece, restLen, cutFrom, pieces}
-use Rattle.sign.specs.Sign.{Before, NoFont, After, isFont, isCharacter, adding, Verdict, Fine, FailsAt, faultFrom, firstFault, fault, RefusedAt, answer, configIn, fontsOf, signFile}
+use Rattle.sign.specs.Sign.{pastOptions, Before, NoFont, After, isFont, isCharacter, adding, Verdict, Fine, FailsAt, faultFrom, firstFault, fault, RefusedAt, answer, configIn, fontsOf, signFile}
 use Rattle.sign.specs.Given.{given as tableOf}
 use Rattle.sign.specs.declared.SignFile.{SignFile}
 use Rattle.sign.specs.declared.Outcome.the-variants.{RefusedAt as RefusedOutcome}
 use Rattle.sign.proofs.Answer.{refuses}
+use Rattle.sign.proofs.Options.{options-keep}
 
 -- a record's offset is below n
 abbrev At : ℕ → Piece → Type 0
@@ -58,7 +59,11 @@ first-small : (n : ℕ) (ps : List Piece) → All n ps → Small n (firstFault p
 unfolding firstFault
 first-small n [] h = omega arith
 first-small n (CutShort at ∷ ps) h = omega (arith, h .0)
-first-small n (Record at kind body ∷ ps) h = pick-small n (isConfig kind body) _ _ (from-small n [] NoFont ps (h .1)) (omega (arith, h .0))
+first-small n (Record at kind body ∷ ps) h =
+    pick-small n (isConfig kind body) _ _ (from-small n [] NoFont (pastOptions ps) (past ps (h .1))) (omega (arith, h .0))
+  where
+    past : (qs : List Piece) → All n qs → All n (pastOptions qs)
+    past qs = options-keep (All n) (λ a k b rs g. g .1) qs
 
 fault-small : (file : List ℕ) → Small 65535 (fault file)
 unfolding fault pieces

@@ -10,7 +10,8 @@ use Rattle.base.specs.Pick.{pick}
 use Rattle.records.specs.declared.Config.{Config}
 use Rattle.records.specs.Record.{littleAt, bodyLen, kindOf, whole, Piece, Record, CutShort, firstPiece, restLen, cutFrom, pieces}
 use Rattle.records.specs.Config.{isConfig}
-use Rattle.sign.specs.Sign.{Font, Before, NoFont, After, adding, isFont, isCharacter, Verdict, Fine, FailsAt, faultFrom, firstFault, fault, RefusedAt, answer, signFile}
+use Rattle.sign.specs.Sign.{Font, pastOptions, Before, NoFont, After, adding, isFont, isCharacter, Verdict, Fine, FailsAt, faultFrom, firstFault, fault, RefusedAt, answer, signFile}
+use Rattle.sign.proofs.Options.{options-keep}
 use Rattle.layout.specs.Demand.{In, here, there}
 use Rattle.layout.specs.Bounds.{offset, offsets}
 
@@ -38,8 +39,11 @@ from-in ns b (Record a kind body ∷ ps) n e =
 first-in : (p : Piece) (ps : List Piece) (n : ℕ) → firstFault (p ∷ ps) ≡ FailsAt n → In n (map offset (p ∷ ps))
 unfolding firstFault
 first-in (CutShort a) ps n e = found a n (map offset ps) e
-first-in (Record a kind body) ps n e = go (isConfig kind body) (from-in [] NoFont ps n) e
+first-in (Record a kind body) ps n e = go (isConfig kind body) (λ q. past ps (from-in [] NoFont (pastOptions ps) n q)) e
   where
+    past : (qs : List Piece) → In n (map offset (pastOptions qs)) → In n (map offset qs)
+    past qs = options-keep (λ rs. In n (map offset rs) → In n (map offset qs)) (λ b k c rs f i. f (there i)) qs (λ i. i)
+
     go : (t : Bool) {x : Verdict} → (x ≡ FailsAt n → In n (map offset ps)) → pick t x (FailsAt a) ≡ FailsAt n → In n (a ∷ map offset ps)
     go true f q = there (f q)
     go false f q = found a n (map offset ps) q

@@ -15,7 +15,7 @@ use Rattle.value.specs.Tag.{fieldTag}
 use Rattle.reading.specs.Reading.{tagItem, textItem, itemOf}
 use Rattle.records.specs.Record.{littleAt, bodyLen, kindOf, whole as wholeRecord, firstPiece, restLen as restLenRecord, cutFrom, pieces}
 use Rattle.records.specs.Config.{configOf, sizeOk, justOk, notZero, bitsOk, tagsOk, configOk, isConfig}
-use Rattle.sign.specs.Sign.{charactersOf, fontsOf, configIn, member, isFont, bitmapLen, isCharacter, faultFrom, firstFault as firstBad, fault, signFile}
+use Rattle.sign.specs.Sign.{charactersOf, fontsOf, hasOption, pastOption, pastOptions, configIn, member, isFont, bitmapLen, isCharacter, faultFrom, firstFault as firstBad, fault, signFile}
 use Rattle.layout.specs.declared.Span.{Span}
 use Rattle.layout.specs.declared.Answer.the-variants.{On, Off, End, Refused}
 use Rattle.layout.specs.Types.{items}
@@ -58,6 +58,14 @@ boardM h = config 7 0 7 3 ++ font1 h
 -- board P with character width 5
 unfoldable pub boardC : List ℕ
 boardC = config 24 5 0 2 ++ font1 7
+
+-- an option of document 02: "an empty record" of its kind
+unfoldable pub option : ℕ → List ℕ
+option kind = 0 ∷ 0 ∷ kind ∷ 0 ∷ []
+
+-- board P with options, "directly after kind 1"
+unfoldable pub boardWith : List ℕ → List ℕ
+boardWith options = config 24 0 0 2 ++ options ++ font1 7
 
 -- ---- answers
 
@@ -173,6 +181,9 @@ pub record Boards : Type 0 where
   -- 1, an empty sign file; 4, a slice of 1,399 records
   pub no-sign : calls [] (ascii "A") 1 0 ≡ refused 1 0 0 0 ∷ []
   pub short-slice : result boardP (ascii "A") 0 1399 ≡ refused 4 0 0 0
+  -- document 02, A4: kind 4 twice, and after a font: 1 at its offset
+  pub option-twice : board (boardWith (option 4 ++ option 4)) "A" 1 ≡ refused 1 23 0 0 ∷ []
+  pub option-late : board (boardP ++ option 4) "A" 1 ≡ refused 1 64 0 0 ∷ []
 
 pub boards : Boards
 unfolding times digitOf readFrom readDigits readNumber versionId first extra lowByte high fitsDue afterByte wellFormedFrom wellFormed codeOf codesFrom
@@ -180,11 +191,12 @@ unfolding times digitOf readFrom readDigits readNumber versionId first extra low
     optionalVersion justification readXy rectangleOf readRgb rgbOf colorOf newLine newPageTag fontTag justificationLine justificationPage pageTime
     pageBackground colorForeground colorBackground fourOf fifth colorRectangle lastFour textRectangle spacingCharacter hexadecimalCharacter flashOn
     flashOff flashTime field pointOf graphicAt graphic spacingCharacterEnd flashEnd textOf manufacturerSpecific manufacturerSpecificEnd movement
-    movementParts movementOf moved movingTextMode movingTextLinear movingText endName firstName nameBy nameOf tagValue fieldTag tagItem textItem itemOf
-    littleAt bodyLen kindOf wholeRecord firstPiece restLenRecord cutFrom pieces configOf sizeOk justOk notZero bitsOk tagsOk configOk isConfig
-    charactersOf fontsOf configIn member isFont bitmapLen isCharacter faultFrom firstBad fault signFile items measureIn meterOf boardOf lookup characterIn
-    widened widthAfter textWidth step opening events orElse unless due lineGap beforeOf afterOf linesOf aboveOf belowOf xOf baseOf recordOf spanFault
-    passFault passRecords pages admission result dark config character font1 boardP boardM boardC calls board text within lit off end refused
+    movementParts movementOf moved movingTextMode movingTextLinear movingText endName firstName nameBy nameOf tagValue fieldTag tagItem textItem
+    itemOf littleAt bodyLen kindOf wholeRecord firstPiece restLenRecord cutFrom pieces configOf sizeOk justOk notZero bitsOk tagsOk configOk isConfig
+    charactersOf fontsOf configIn member isFont bitmapLen isCharacter hasOption pastOption pastOptions faultFrom firstBad fault signFile items
+    measureIn meterOf boardOf lookup characterIn widened widthAfter textWidth step opening events orElse unless due lineGap beforeOf afterOf linesOf
+    aboveOf belowOf xOf baseOf recordOf spanFault passFault passRecords pages admission result dark config character font1 boardP boardM boardC option
+    boardWith calls board text within lit off end refused
 boards =
     record {
       empty = refl;
@@ -216,4 +228,6 @@ boards =
       too-long = refl;
       no-sign = refl;
       short-slice = refl;
+      option-twice = refl;
+      option-late = refl;
     }

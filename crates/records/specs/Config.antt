@@ -25,10 +25,28 @@ configWith w h t body =
       «on_time» = getD body 9 0;
       «off_time» = getD body 10 0;
       tags = t;
+      capitals = false;
     }
 
 unfoldable pub configOf : List ℕ → Config
 configOf body = configWith (littleAt 2 0 body) (littleAt 2 2 body) (littleAt 4 11 body) body
+
+-- the configuration with the options of the file, which are records of their own (document 02): A4, kind 4
+abbrev pub withOptions : Bool → Config → Config
+withOptions capitals c =
+    record {
+      width = c .width;
+      height = c .height;
+      «char_width» = c .«char_width»;
+      «char_height» = c .«char_height»;
+      font = c .font;
+      «line_just» = c .«line_just»;
+      «page_just» = c .«page_just»;
+      «on_time» = c .«on_time»;
+      «off_time» = c .«off_time»;
+      tags = c .tags;
+      capitals = capitals;
+    }
 
 -- a width or a height: "1 to 4,096"
 unfoldable pub sizeOk : ℕ → Bool

@@ -14,6 +14,7 @@ pub enum Head {
     Short,
 }
 
+// The values of kind 1, and the options, which are records of their own: capitals may stand in for small letters (kind 4).
 pub struct Config {
     pub width: u16,
     pub height: u16,
@@ -25,6 +26,7 @@ pub struct Config {
     pub on_time: u8,
     pub off_time: u8,
     pub tags: u32,
+    pub capitals: bool,
 }
 
 pub enum First {
@@ -130,7 +132,7 @@ fn config_ok(c: Config) -> bool
     tags_ok(c.tags)
 }
 
-// The values of the configuration's body.
+// The values of the configuration's body, with no option.
 fn config_in(body: &[u8]) -> Config
     requires { ⌜ length (now body) ≡ 15 ⌝ }
     ensures { λ r. ⌜ r ≡ configOf (now (body .entry)) ⌝ }
@@ -146,6 +148,7 @@ fn config_in(body: &[u8]) -> Config
         on_time: body[9],
         off_time: body[10],
         tags: le32(body, 11),
+        capitals: false,
     }
 }
 

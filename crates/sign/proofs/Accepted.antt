@@ -1,6 +1,6 @@
 -- Every file that is accepted keeps the rules.
 use Prim.Native.Nat.{ℕ, zero, suc, _+_, _-_, _≤_, _<_}
-use mathlib.Core.Path.{_≡_, refl, ap}
+use mathlib.Core.Path.{_≡_, refl, sym, _∙_, ap}
 use mathlib.Core.List.{List, [], _∷_, map}
 use mathlib.Core.Bool.{Bool, true, false, not}
 use native.Mathlib.Omega.{arith}
@@ -10,12 +10,13 @@ use lib.Seq.{drop-drop}
 use borrow.Author.Tests.{leb-true, ltb-true, ltb-false, eqb-true, eqb-false, not-true, eq-eqb, ne-eqb}
 use Rattle.base.specs.Pick.{pick}
 use Rattle.records.specs.Record.{littleAt, bodyLen, kindOf, whole, firstPiece, restLen, cutFrom, Piece, Record, CutShort, pieces, piecesAt}
-use Rattle.records.specs.Config.{notZero, sizeOk, justOk, mask, bit, bitsOk, tagsOk, configOf, configOk, isConfig}
+use Rattle.records.specs.Config.{notZero, sizeOk, justOk, mask, bit, bitsOk, tagsOk, configOf, withOptions, configOk, isConfig}
 use Rattle.records.proofs.Laws.{never, Tests, tests, skips, room}
 use Rattle.records.specs.declared.Config.{Config}
-use Rattle.sign.specs.Sign.{Character, Font, characterOf, fontOf, charactersOf, fontsOf, configIn, member, Before, NoFont, After, isFont, isCharacter, bitmapLen, Verdict, Fine, FailsAt, faultFrom, firstFault, fault, Accepted, answer, signFile}
+use Rattle.sign.specs.Sign.{Character, Font, characterOf, fontOf, charactersOf, fontsOf, hasOption, pastOptions, configIn, member, Before, NoFont, After, isFont, isCharacter, bitmapLen, Verdict, Fine, FailsAt, faultFrom, firstFault, fault, Accepted, answer, signFile}
 use Rattle.sign.specs.Accepted.{Each, each-none, each-more, Apart, apart-none, apart-more, GoodConfig, GoodCharacter, GoodFont, GoodSign, Bytes}
 use Rattle.sign.proofs.Laws.{fonts-other}
+use Rattle.sign.proofs.Options.{options-fonts, options-keep}
 
 some : (n : ℕ) → notZero n ≡ true → 0 < n
 unfolding notZero
@@ -311,12 +312,12 @@ first-good file [] h ch e = never (let z : _≡_ {A = ℕ} 0 1 = cc in z)
 first-good file (CutShort at ∷ ps) h ch e = never (let z : _≡_ {A = ℕ} 0 1 = cc in z)
 first-good file (Record at kind body ∷ ps) h ch e = go (isConfig kind body) refl e
   where
-    go : (t : Bool) → isConfig kind body ≡ t → pick t (faultFrom [] NoFont ps) (FailsAt at) ≡ Fine
-        → GoodSign file (configOf body) (fontsOf (Record at kind body ∷ ps))
+    go : (t : Bool) → isConfig kind body ≡ t → pick t (faultFrom [] NoFont (pastOptions ps)) (FailsAt at) ≡ Fine
+        → GoodSign file (withOptions (hasOption 4 ps) (configOf body)) (fontsOf (Record at kind body ∷ ps))
     go true p q =
         record {
           size = h;
-          config = config-good (configOf body) (ok .1 .1 .0);
+          config = config-good (withOptions (hasOption 4 ps) (configOf body)) (unfold configOk in ok .1 .1 .0);
           few = rw fonts (omega (arith, r .few));
           apart = rw fonts (r .apart);
           each = rw fonts (r .each);
@@ -325,11 +326,11 @@ first-good file (Record at kind body ∷ ps) h ch e = go (isConfig kind body) re
         ok : Tests (eqb kind 1 ∷ eqb (length body) 15 ∷ configOk (configOf body) ∷ [])
         ok = tests (eqb kind 1 ∷ eqb (length body) 15 ∷ configOk (configOf body) ∷ []) (unfold isConfig in p)
 
-        r : Rest file [] NoFont ps
-        r = rest file ps [] NoFont (ch .1) (omega arith) tt q
+        r : Rest file [] NoFont (pastOptions ps)
+        r = rest file (pastOptions ps) [] NoFont (options-keep (Chain file) (λ a k b qs c. c .1) ps (ch .1)) (omega arith) tt q
 
-        fonts : fontsOf (Record at kind body ∷ ps) ≡ fontsOf ps
-        fonts = fonts-other at kind body ps (λ d. omega (arith, eqb-true kind 1 (ok .0)))
+        fonts : fontsOf (Record at kind body ∷ ps) ≡ fontsOf (pastOptions ps)
+        fonts = fonts-other at kind body ps (λ d. omega (arith, eqb-true kind 1 (ok .0))) ∙ sym (options-fonts ps)
     go false p q = never (let z : _≡_ {A = ℕ} 0 1 = cc in z)
 
 pub accepted : (file : List ℕ) (c : Config) (fs : List Font) → Bytes file → signFile file ≡ Accepted c fs → GoodSign file c fs

@@ -19,7 +19,7 @@ use Rattle.records.specs.declared.Head.the-variants.{Whole, Short}
 use Rattle.sign.specs.Sign.{configIn, firstFault, fault, FailsAt, signFile}
 use Rattle.sign.specs.Given.{refusalAt, given}
 use Rattle.sign.specs.declared.SignFile.{SignFile}
-use Rattle.sign.specs.Reading.{part, givenFrom}
+use Rattle.sign.specs.Reading.{part, givenAfter}
 use Rattle.sign.proofs.Laws.{fonts-other}
 
 module _ (file : List ℕ) (r : SignFile) where
@@ -67,8 +67,8 @@ module _ (file : List ℕ) (r : SignFile) where
               no : isConfig kind body ≡ false
               no = go (isConfig kind body) (tested Refused d (isConfig kind body) refl)
 
-          pub sign-on : (c : Config) → t ≡ Is c → r ≡ givenFrom file end c → r ≡ given (signFile file)
-          unfolding signFile firstFault configIn givenFrom
+          pub sign-on : (c : Config) → t ≡ Is c → r ≡ givenAfter file end c → r ≡ given (signFile file)
+          unfolding signFile firstFault configIn givenAfter
           sign-on c d f = rw (fault-is, pieces-all file, next, yes .0, yes .1, fonts-other 0 kind body (piecesAt file end) other) f
             where
               go : (u : Bool) → isConfig kind body ≡ u → pick u (Is (configOf body)) Refused ≡ Is c → (isConfig kind body ≡ true) × (configOf body ≡ c)

@@ -1,6 +1,7 @@
 -- What `read_sign` gives of a file: the whole answer, field by field.
 use Prim.Native.Nat.{ℕ, zero, suc, _-_}
 use mathlib.Core.List.{List, [], _∷_, _++_, map}
+use mathlib.Core.Bool.{false}
 use lib.ListN.{length}
 use Rattle.records.specs.declared.Config.{Config}
 use Rattle.sign.specs.Sign.{Font, Sign, Accepted as Content, RefusedAt as Refusal}
@@ -39,6 +40,7 @@ noConfig =
       «on_time» = 0;
       «off_time» = 0;
       tags = 0;
+      capitals = false;
     }
 
 -- an accepted file: its fonts stand first in the table

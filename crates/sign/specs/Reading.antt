@@ -3,15 +3,15 @@ use Prim.Native.Nat.{ℕ, _+_, _-_, _≤_}
 use mathlib.Core.Path.{_≡_}
 use mathlib.Core.List.{List, [], _∷_, _++_, map}
 use mathlib.Core.Bool.{Bool, true, false, not}
-use lib.Dec.{eqb}
+use lib.Dec.{ltb, eqb}
 use lib.ListN.{length, getD, take, drop}
 use Rattle.base.specs.Pick.{pick}
 use Rattle.records.specs.Record.{all, littleAt, Piece, Record, CutShort, piecesAt, headAt}
-use Rattle.records.specs.Config.{notZero}
+use Rattle.records.specs.Config.{notZero, withOptions}
 use Rattle.records.specs.declared.Config.{Config}
 use Rattle.records.specs.declared.Head.{Head}
 use Rattle.records.specs.declared.Head.the-variants.{Whole, Short}
-use Rattle.sign.specs.Sign.{charactersOf, fontsOf, member, Before, NoFont, After, isCharacter, bitmapLen, Fine, faultFrom, answer}
+use Rattle.sign.specs.Sign.{charactersOf, fontsOf, hasOption, pastOption, pastOptions, member, Before, NoFont, After, isCharacter, bitmapLen, Fine, faultFrom, answer}
 use Rattle.sign.specs.declared.FontEntry.{FontEntry}
 use Rattle.sign.specs.declared.FontAt.{FontAt}
 use Rattle.sign.specs.declared.FontAt.the-variants.{Is, Not}
@@ -53,6 +53,18 @@ filled f n =
 unfoldable pub givenFrom : List ℕ → ℕ → Config → SignFile
 givenFrom file from c =
     given (answer (faultFrom [] NoFont (piecesAt file from)) c (fontsOf (piecesAt file from)))
+
+-- the same, where options may stand first
+unfoldable pub givenAfter : List ℕ → ℕ → Config → SignFile
+givenAfter file from c =
+    given
+    (answer (faultFrom [] NoFont (pastOptions (piecesAt file from))) (withOptions (hasOption 4 (piecesAt file from)) c) (fontsOf (piecesAt file from)))
+
+-- what `past_option` answers: where the records after an option start, or an offset itself if no such option is there
+pub record PastOption (file : List ℕ) (at option r : ℕ) : Type 0 where
+  pub inside : at ≤ length file → r ≤ length file
+  pub rest : piecesAt file r ≡ pastOption option (piecesAt file at)
+  pub has : ltb at r ≡ hasOption option (piecesAt file at)
 
 -- the bytes from an offset to another
 abbrev pub part : List ℕ → ℕ → ℕ → List ℕ

@@ -3,10 +3,10 @@ use Prim.Native.Nat.{ℕ, _+_, _*_, _/_}
 use mathlib.Core.List.{List, [], _∷_}
 use mathlib.Core.Bool.{Bool, true, false, not}
 use lib.Dec.{ltb, eqb}
-use lib.ListN.{length, getD}
+use lib.ListN.{length, getD, drop}
 use Rattle.base.specs.Pick.{pick}
 use Rattle.records.specs.Record.{all, littleAt, Piece, Record, CutShort, pieces}
-use Rattle.records.specs.Config.{notZero, configOf, isConfig}
+use Rattle.records.specs.Config.{notZero, configOf, withOptions, isConfig}
 use Rattle.records.specs.declared.Config.{Config}
 
 -- The content
@@ -56,11 +56,27 @@ fontsOf [] = []
 fontsOf (CutShort at ∷ ps) = fontsOf ps
 fontsOf (Record at kind body ∷ ps) = pick (eqb kind 2) (fontOf at body (charactersOf ps) ∷ fontsOf ps) (fontsOf ps)
 
--- the configuration: the first record
+-- Document 02, the options: A4, "an empty record of kind 4, directly after kind 1"
+
+-- the records start with the option of a kind: its record is empty
+unfoldable pub hasOption : ℕ → List Piece → Bool
+hasOption option [] = false
+hasOption option (CutShort at ∷ ps) = false
+hasOption option (Record at kind body ∷ ps) = all (eqb kind option ∷ eqb (length body) 0 ∷ [])
+
+-- the records after that option, or all where it is not there
+unfoldable pub pastOption : ℕ → List Piece → List Piece
+pastOption option ps = pick (hasOption option ps) (drop 1 ps) ps
+
+-- the records after all options, each of which is there at most once, in the order of their kinds
+unfoldable pub pastOptions : List Piece → List Piece
+pastOptions ps = pastOption 4 ps
+
+-- the configuration: the first record, with the options after it
 unfoldable pub configIn : List Piece → Config
 configIn [] = configOf []
 configIn (CutShort at ∷ ps) = configOf []
-configIn (Record at kind body ∷ ps) = configOf body
+configIn (Record at kind body ∷ ps) = withOptions (hasOption 4 ps) (configOf body)
 
 -- The rules
 
@@ -102,7 +118,7 @@ pub data Verdict : Type 0 where
   Fine : Verdict
   FailsAt : ℕ → Verdict
 
--- the records after the first, where ns are the numbers of the fonts before: each is a font, or a character, by the rules, or fails
+-- the records after the first and its options, where ns are the numbers of the fonts before: each is a font, or a character, by the rules, or fails
 unfoldable pub faultFrom : List ℕ → Before → List Piece → Verdict
 faultFrom ns b [] = Fine
 faultFrom ns b (CutShort at ∷ ps) = FailsAt at
@@ -110,11 +126,11 @@ faultFrom ns b (Record at kind body ∷ ps) =
     pick (isFont ns kind body) (faultFrom (getD body 0 0 ∷ ns) (After (getD body 1 0) []) ps)
     (pick (isCharacter b kind body) (faultFrom ns (adding (littleAt 2 0 body) b) ps) (FailsAt at))
 
--- "Kind 1, first and once", then fonts and characters: no other kind. An empty file fails at 0
+-- "Kind 1, first and once", the options, then fonts and characters: no other kind. An empty file fails at 0
 unfoldable pub firstFault : List Piece → Verdict
 firstFault [] = FailsAt 0
 firstFault (CutShort at ∷ ps) = FailsAt at
-firstFault (Record at kind body ∷ ps) = pick (isConfig kind body) (faultFrom [] NoFont ps) (FailsAt at)
+firstFault (Record at kind body ∷ ps) = pick (isConfig kind body) (faultFrom [] NoFont (pastOptions ps)) (FailsAt at)
 
 -- "65,535 bytes in all"; "start is 0 if the file is too long (looked at first) or empty, otherwise the offset of the first record that
 -- fails, one cut short included"

@@ -7,7 +7,7 @@ ghost use Prim.Native.Nat.{ℕ, _≤_, _<_};
 ghost use lib.ListN.{length, getD};
 ghost use Rattle.sign.specs.Sign.{bitmapLen, signFile};
 ghost use Rattle.sign.specs.Given.{noFonts, refusalAt, given};
-ghost use Rattle.sign.specs.Reading.{fontEntry, fontIn, fontAt, charIn, charAt, Ran, RunIn, givenFrom};
+ghost use Rattle.sign.specs.Reading.{fontEntry, fontIn, fontAt, charIn, charAt, Ran, RunIn, givenFrom, PastOption, givenAfter};
 
 // A font of the file: its values, the offset of its first character's record, and how many it has.
 pub struct FontEntry {
@@ -206,6 +206,7 @@ fn refused(at: usize) -> SignFile
         on_time: 0,
         off_time: 0,
         tags: 0,
+        capitals: false,
     };
     SignFile {
         outcome: Outcome::RefusedAt(at),
@@ -251,6 +252,33 @@ fn read_fonts(file: &[u8], from: usize, config: Config) -> SignFile
     }
 }
 
+// Where the records go on: past the one at an offset, if it is the option of that kind.
+fn past_option(file: &[u8], at: usize, option: u16) -> usize
+    ensures { λ r. ⌜ PastOption (now (file .entry)) at option r ⌝ }
+{
+    let Head::Whole { kind, start, end } = reader::record_at(file, at) else {
+        return at;
+    };
+    if kind != option {
+        return at;
+    }
+    if start < end {
+        return at;
+    }
+    end
+}
+
+// The options from an offset on, in their order, and the fonts after them.
+fn read_options(file: &[u8], from: usize, c: Config) -> SignFile
+    requires { ⌜ from ≤ length (now file) ⌝ }
+    ensures { λ r. ⌜ r ≡ givenAfter (now (file .entry)) from c ⌝ }
+{
+    let mut config = c;
+    let at = past_option(file, from, 4);
+    config.capitals = from < at;
+    read_fonts(file, at, config)
+}
+
 // The whole file.
 pub fn read_sign(file: &[u8]) -> SignFile
     ensures { λ r. ⌜ r ≡ given (signFile (now (file .entry))) ⌝ }
@@ -264,5 +292,5 @@ pub fn read_sign(file: &[u8]) -> SignFile
     let First::Is(config) = records::config_of(kind, &file[start..end]) else {
         return refused(0);
     };
-    read_fonts(file, end, config)
+    read_options(file, end, config)
 }

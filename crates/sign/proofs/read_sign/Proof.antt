@@ -22,5 +22,5 @@ read-sign-spec =
     (λ c. search needs)  -- enum-told-2
     (λ c κs. search needs)  -- refused-requires-3
     (λ c. search (sign-ways, needs) depth 8)  -- returns-3
-    (λ c κs. search (spans, needs) depth 8)  -- read-fonts-requires
+    (λ c κs. search (spans, needs) depth 8)  -- read-options-requires
     (λ c. search (sign-ways, needs) depth 8))  -- returns-4
