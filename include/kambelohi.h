@@ -90,7 +90,8 @@ enum {
     KAMBELOHI_GOES_BACK = 9,         /* "justification goes back, change order"; place of the span */
     KAMBELOHI_NO_FONT = 10,          /* "font is not on this board"; detail: its number; place of the span */
     KAMBELOHI_FONT_VERSION = 11,     /* "font has another version on this board"; its version id differs; place of the span */
-    KAMBELOHI_NO_CHARACTER = 12,     /* "character is not in this font"; detail: its code; place of the span */
+    KAMBELOHI_NO_CHARACTER = 12,     /* "character is not in this font"; nor, where the sign file lets capitals stand in for a to
+                                        z (a record of kind 4), its capital; detail: its code; place of the span */
     KAMBELOHI_TOO_BIG = 13,          /* "text does not fit its rectangle"; its width or height; place of the span */
     KAMBELOHI_TOO_LOW = 14,          /* "font is too tall for this line grid"; the rounded baseline is less than the font's
                                         height; place of the span */

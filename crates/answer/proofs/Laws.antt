@@ -32,7 +32,7 @@ use Rattle.layout.proofs.Room.{result-room}
 use Rattle.rows.specs.Rows.{spansOf}
 use Rattle.rows.proofs.Laws.{spans-length}
 use Rattle.counts.specs.declared.Placed.{Placed}
-use Rattle.counts.specs.Placing.{charsLooked, fontsIn, withCounts}
+use Rattle.counts.specs.Placing.{fontsIn, capitalsIn, charsLooked, withCounts}
 use Rattle.meter.specs.Gauges.{meterIn}
 use Rattle.pages.specs.declared.Pages.{Pages}
 use Rattle.pages.specs.declared.PageShown.{PageShown}
@@ -238,7 +238,7 @@ module _ {file : List ℕ} {table : SignFile} {msg : List ℕ} {number : ℕ} {r
 
 board-is : (file msg : List ℕ) (c : Config) (fs : List Font) → signFile file ≡ Accepted c fs → boardIn file msg c ≡ boardOf msg c fs
 unfolding boardOf meterIn
-board-is file msg c fs q = ap (λ (x : Sign). record { config = c; meter = meterOf msg (fontsIn x) }) q
+board-is file msg c fs q = ap (λ (x : Sign). record { config = c; meter = meterOf msg (capitalsIn x) (fontsIn x) }) q
 
 -- x is the answer of `admit`
 module _ (file msg : List ℕ) {x : Admitted} (e : x ≡ handed (admission file msg) (signFile file)) where
@@ -323,8 +323,8 @@ module _ {file msg : List ℕ} {number room : ℕ} {out l : List ℕ} {p : Place
   abbrev y : Result
   y = result file msg number room
 
-  abbrev fs : List Font
-  fs = fontsIn (signFile file)
+  abbrev sign : Sign
+  sign = signFile file
 
   written-is : writtenBy (p .answer) l ≡ y .written
   written-is = ap (λ (x : Result). x .written) (h .computed .ends)
@@ -332,8 +332,8 @@ module _ {file msg : List ℕ} {number room : ℕ} {out l : List ℕ} {p : Place
   answer-is : p .answer ≡ y .answer
   answer-is = ap (λ (x : Result). x .answer) (h .computed .ends)
 
-  looked-is : p .looked ≡ charsLooked fs msg (y .written)
-  looked-is = h .counts .looked ∙ ap (charsLooked fs msg) written-is
+  looked-is : p .looked ≡ charsLooked sign msg (y .written)
+  looked-is = h .counts .looked ∙ ap (charsLooked sign msg) written-is
 
   spans-are : p .spans ≡ length (y .written)
   spans-are = h .counts .spans ∙ sym (count-told (p .answer) l) ∙ ap length written-is
@@ -347,4 +347,4 @@ module _ {file msg : List ℕ} {number room : ℕ} {out l : List ℕ} {p : Place
 
   pub placed-as : PlacedAs file msg number room l (record { placed = p; count = p .spans })
   placed-as =
-      record { placed = same-placed (withCounts fs msg y) answer-is looked-is spans-are; counted = counted-is (h .computed) (h .counts .spans) }
+      record { placed = same-placed (withCounts sign msg y) answer-is looked-is spans-are; counted = counted-is (h .computed) (h .counts .spans) }

@@ -14,7 +14,7 @@ use Rattle.layout.specs.declared.Answer.the-variants.{On, Off, End, Refused}
 use Rattle.layout.specs.Types.{items}
 use Rattle.layout.specs.Listing.{Result, said, pages, numbered, result}
 use Rattle.counts.specs.declared.Placed.{Placed}
-use Rattle.counts.specs.Placing.{charsLooked, fontsIn, withCounts}
+use Rattle.counts.specs.Placing.{charsLooked, withCounts}
 use Rattle.rows.specs.Rows.{SpanRoom, spansOf}
 use Rattle.meter.specs.Gauges.{AcceptedTable}
 use Rattle.pages.specs.Pages.{boardIn, IfShown}
@@ -71,7 +71,7 @@ pub record Listable (file : List ℕ) (table : SignFile) (msg out : List ℕ) : 
 
 -- the answer has these counts: how many characters were looked up for the records that it counts, the first of the slice l, and how many those are
 pub record CountsTold (file msg l : List ℕ) (r : Placed) : Type 0 where
-  pub looked : r .looked ≡ charsLooked (fontsIn (signFile file)) msg (writtenBy (r .answer) l)
+  pub looked : r .looked ≡ charsLooked (signFile file) msg (writtenBy (r .answer) l)
   pub spans : r .spans ≡ countOf (r .answer)
 
 -- the answer of a number; out was there before it, and out′ is after it
@@ -102,5 +102,5 @@ pub record Counted (file msg : List ℕ) (number room : ℕ) (out′ : List ℕ)
 
 -- A9's answer, with the count of its records
 pub record PlacedAs (file msg : List ℕ) (number room : ℕ) (out′ : List ℕ) (r : PlacedCount) : Type 0 where
-  pub placed : r .placed ≡ withCounts (fontsIn (signFile file)) msg (result file msg number room)
+  pub placed : r .placed ≡ withCounts (signFile file) msg (result file msg number room)
   pub counted : Counted file msg number room out′ (record { answer = r .placed .answer; count = r .count })

@@ -9,8 +9,8 @@ use lib.Dec.{eqb}
 use lib.ListN.{length, take, drop, length-take}
 use Rattle.base.specs.Pick.{pick}
 use Rattle.utf8.specs.Utf8.{codeOf, extra, codes, codesFrom}
-use Rattle.sign.specs.Sign.{Character, Font}
-use Rattle.font.specs.Character.{characterIn}
+use Rattle.sign.specs.Sign.{Character, Font, Sign}
+use Rattle.font.specs.Character.{characterIn, lettersOf}
 use Rattle.font.specs.Table.{fontNumbered}
 use Rattle.font.specs.Measure.{lookedOn, lookedUp}
 use Rattle.font.specs.declared.Found.{Found}
@@ -21,7 +21,7 @@ use Rattle.layout.specs.declared.Span.{Span}
 use Rattle.layout.specs.Types.{Board}
 use Rattle.layout.specs.Fonts.{charsOf}
 use Rattle.layout.specs.Placing.{recordOf, passRecords}
-use Rattle.counts.specs.Placing.{sumOf, lookedIn, charsLooked}
+use Rattle.counts.specs.Placing.{sumOf, fontsIn, capitalsIn, lookedIn, charsLooked}
 
 -- ---- sums
 
@@ -59,19 +59,24 @@ chars-most msg e n h k = go (eqb (e .kind) 0) (eqb (e .kind) 1)
     go false true = omega arith
     go false false = omega arith
 
-pub looked-few : (msg : List ℕ) (e : Entry) (o : Option Font) (n : ℕ) → e .len ≤ n → 0 < n → lookedIn (charsOf msg e) o ≤ n
-looked-few msg e none n h k = omega arith
-looked-few msg e (some f) n h k = omega (arith, looked-most (f .characters) (charsOf msg e), chars-most msg e n h k)
+pub looked-few : (msg : List ℕ) (e : Entry) (capitals : Bool) (o : Option Font) (n : ℕ) → e .len ≤ n → 0 < n → lookedIn capitals (charsOf msg e) o ≤ n
+looked-few msg e capitals none n h k = omega arith
+looked-few msg e capitals (some f) n h k =
+    omega (arith, looked-most (lettersOf capitals (f .characters)) (charsOf msg e), chars-most msg e n h k)
 
 -- ---- the records of a pass tell what is looked up for its spans
 
-module _ (fs : List Font) (msg : List ℕ) (s : Board) (r : Rect) (es : List Entry) where
-  looked-map : (l : List Entry)
-      → charsLooked fs msg (map (recordOf s r es) l) ≡ sumOf (λ e. lookedIn (charsOf msg e) (fontNumbered (e .state .font) fs)) l
+module _ (sign : Sign) (msg : List ℕ) (s : Board) (r : Rect) (es : List Entry) where
+  -- for a span
+  abbrev lookedFor : Entry → ℕ
+  lookedFor e = lookedIn (capitalsIn sign) (charsOf msg e) (fontNumbered (e .state .font) (fontsIn sign))
+
+  looked-map : (l : List Entry) → charsLooked sign msg (map (recordOf s r es) l) ≡ sumOf lookedFor l
   unfolding recordOf
   looked-map [] = refl
-  looked-map (e ∷ l) = ap (λ (n : ℕ). lookedIn (charsOf msg e) (fontNumbered (e .state .font) fs) + n) (looked-map l)
+  looked-map (e ∷ l) = ap (λ (n : ℕ). lookedFor e + n) (looked-map l)
 
-  pub looked-pass : charsLooked fs msg (passRecords s r es) ≡ sumOf (λ e. lookedIn (charsOf msg e) (fontNumbered (e .state .font) fs)) es
+  pub looked-pass : charsLooked sign msg (passRecords s r es)
+      ≡ sumOf (λ e. lookedIn (capitalsIn sign) (charsOf msg e) (fontNumbered (e .state .font) (fontsIn sign))) es
   unfolding passRecords
   looked-pass = looked-map es

@@ -7,8 +7,9 @@ use mathlib.Core.List.{List, [], _∷_, _++_, map}
 use lib.ListN.{length, drop}
 use Rattle.records.specs.declared.Config.{Config}
 use Rattle.refusal.specs.declared.Refusal.{Refusal}
-use Rattle.sign.specs.Sign.{Font, signFile}
+use Rattle.sign.specs.Sign.{Font, Accepted, signFile}
 use Rattle.font.specs.Table.{fontNumbered}
+use Rattle.font.specs.Character.{lettersOf}
 use Rattle.font.proofs.Counts.{counts}
 use Rattle.admit.specs.Admission.{Admission, admission}
 use Rattle.admit.proofs.Laws.{admits}
@@ -29,7 +30,7 @@ use Rattle.layout.proofs.Calls.{counted-is}
 use Rattle.layout.proofs.Checks.{any-result}
 use Rattle.layout.proofs.Room.{Counts, numbered-counts}
 use Rattle.counts.specs.declared.Placed.{Placed}
-use Rattle.counts.specs.Placing.{sumOf, charsIn, lookedIn, charsLooked, charsPrinted, fontsIn, withCounts, placing}
+use Rattle.counts.specs.Placing.{sumOf, charsIn, lookedIn, charsLooked, charsPrinted, withCounts, placing}
 use Rattle.counts.specs.Page.{pageRecords, NonePlaced, PageCounts}
 use Rattle.counts.proofs.Laws.{sum-append}
 
@@ -41,24 +42,28 @@ module _ (c : Config) (fs : List Font) (msg : List ℕ) where
 
   -- all that is printed was looked up, once
   abbrev Equal : List Span → Type 0
-  Equal qs = charsLooked fs msg qs ≡ charsPrinted msg qs
+  Equal qs = charsLooked (Accepted c fs) msg qs ≡ charsPrinted msg qs
 
-  found : (l : List ℕ) (o : Option Font) (f : Font) (w : ℕ) → o ≡ some f → lookedIn l (some f) ≡ w → lookedIn l o ≡ w
+  -- how many characters the measure of a text looks up
+  abbrev looks : List ℕ → Option Font → ℕ
+  looks = lookedIn (c .capitals)
+
+  found : (l : List ℕ) (o : Option Font) (f : Font) (w : ℕ) → o ≡ some f → looks l (some f) ≡ w → looks l o ≡ w
   found l o f w p q = rw p q
 
   span-looked : (r : Rect) (es : List Entry) (e : Entry) → In e es → spanFault s r es e ≡ none
-      → lookedIn (charsOf msg e) (fontNumbered (e .state .font) fs) ≡ length (charsOf msg e)
+      → looks (charsOf msg e) (fontNumbered (e .state .font) fs) ≡ length (charsOf msg e)
   span-looked r es e i h =
-      let m : Measured msg fs e (recordOf s r es e) = measured c fs msg r es e i h in
+      let m : Measured c msg fs e (recordOf s r es e) = measured c fs msg r es e i h in
       found (charsOf msg e) (fontNumbered (e .state .font) fs) (m .font) (length (charsOf msg e)) (m .found)
-      ((counts (m .font .characters) _ (charsOf msg e)) .all _ (m .width))
+      ((counts (lettersOf (c .capitals) (m .font .characters)) _ (charsOf msg e)) .all _ (m .width))
 
   spans-looked : (r : Rect) (es l : List Entry) → ((e : Entry) → In e l → In e es) → firstFault (spanFault s r es) es ≡ none
       → Equal (map (recordOf s r es) l)
   unfolding recordOf
   spans-looked r es [] i h = refl
   spans-looked r es (e ∷ l) i h =
-      let a : lookedIn (charsOf msg e) (fontNumbered (e .state .font) fs) ≡ length (charsOf msg e) =
+      let a : looks (charsOf msg e) (fontNumbered (e .state .font) fs) ≡ length (charsOf msg e) =
       span-looked r es e (i e here) (first-none (spanFault s r es) (i e here) h) in
       let b : Equal (map (recordOf s r es) l) = spans-looked r es l (λ x j. i x (there j)) h in
       rw (a, b)
@@ -85,7 +90,7 @@ module _ (c : Config) (fs : List Font) (msg : List ℕ) where
 
   both : (a b : List Span) → Equal a → Equal b → Equal (a ++ b)
   both a b p q =
-      sum-append (λ q. lookedIn (charsIn msg q) (fontNumbered (q .font) fs)) a b ∙ omega (arith, p, q)
+      sum-append (λ q. looks (charsIn msg q) (fontNumbered (q .font) fs)) a b ∙ omega (arith, p, q)
       ∙ sym (sum-append (λ q. length (charsIn msg q)) a b)
 
   walk-each : (evs : List Event) (a b : ℕ) (rs : List Span) (n : ℕ) → Equal rs → Each (walk s evs a b rs n)
@@ -117,10 +122,10 @@ module _ (file msg : List ℕ) (n : ℕ) (lent : List Span) where
   abbrev r : Result
   r = result file msg n (length lent)
 
-  characters : charsLooked (fontsIn (signFile file)) msg (r .written) ≡ charsPrinted msg (r .written)
+  characters : charsLooked (signFile file) msg (r .written) ≡ charsPrinted msg (r .written)
   unfolding result
   characters =
-      any-result msg n (length lent) (λ x. charsLooked (fontsIn (signFile file)) msg (x .written) ≡ charsPrinted msg (x .written)) (λ x. refl)
+      any-result msg n (length lent) (λ x. charsLooked (signFile file) msg (x .written) ≡ charsPrinted msg (x .written)) (λ x. refl)
       (admission file msg) (λ c fs e q. rw ((admits e) .sign) (pages-equal c fs msg n))
 
   counted : countedRecords (r .answer) (r .written ++ drop (length (r .written)) lent) ≡ r .written
@@ -144,7 +149,7 @@ module _ (file msg : List ℕ) (n : ℕ) (lent : List Span) where
   unfolding placing
   none-placed a e h =
       let w : r .written ≡ [] = sym page-is ∙ ap (λ (x : Answer). countedRecords x (after file msg n lent)) e ∙ h (after file msg n lent) in
-      record { looked = ap (charsLooked (fontsIn (signFile file)) msg) w; spans = ap length w }
+      record { looked = ap (charsLooked (signFile file) msg) w; spans = ap length w }
 
   pub page-counts : PageCounts file msg n lent
   unfolding placing listing

@@ -2,6 +2,7 @@
 use Prim.Native.Nat.{ℕ}
 use Prim.Native.String.{String}
 use mathlib.Core.Path.{_≡_, refl}
+use mathlib.Core.List.{List}
 use Rattle.base.specs.Text.{ascii}
 use Rattle.number.specs.Number.{digitOf, readFrom, readDigits, readNumber, versionId}
 use Rattle.utf8.specs.Utf8.{first, extra, low as lowByte, high, fits as fitsDue, afterByte, wellFormedFrom, wellFormed, codeOf, codesFrom, codes, allLatin1}
@@ -14,24 +15,27 @@ use Rattle.value.specs.Tag.{fieldTag}
 use Rattle.reading.specs.Reading.{tagItem, textItem, itemOf}
 use Rattle.records.specs.Record.{littleAt, bodyLen, kindOf, whole as wholeRecord, firstPiece, restLen as restLenRecord, cutFrom, pieces}
 use Rattle.records.specs.Config.{configOf, sizeOk, justOk, notZero, bitsOk, tagsOk, configOk, isConfig}
-use Rattle.sign.specs.Sign.{charactersOf, fontsOf, configIn, member, isFont, bitmapLen, isCharacter, faultFrom, firstFault as firstBad, fault, signFile}
+use Rattle.sign.specs.Sign.{charactersOf, fontsOf, hasOption, pastOption, pastOptions, configIn, member, isFont, bitmapLen, isCharacter, faultFrom, firstFault as firstBad, fault, signFile}
 use Rattle.layout.specs.declared.Answer.the-variants.{On, Off, End, Refused}
 use Rattle.layout.specs.Types.{items}
 use Rattle.refusal.specs.Refusals.{refusal}
-use Rattle.font.specs.Character.{lookup, characterIn}
+use Rattle.font.specs.Character.{lookup, characterIn, isCapital, standIns}
 use Rattle.font.specs.Measure.{widened, widthAfter, textWidth, lookedUp}
 use Rattle.layout.specs.Fonts.{measureIn, meterOf, boardOf}
 use Rattle.layout.specs.Read.{step, opening, events}
 use Rattle.layout.specs.Placing.{orElse, unless, due, lineGap, beforeOf, afterOf, linesOf, aboveOf, belowOf, xOf, baseOf, recordOf, spanFault, passFault, passRecords}
 use Rattle.admit.specs.Admission.{admission}
 use Rattle.layout.specs.Listing.{pages, result}
-use Rattle.layout.specs.Boards.{dark, config, character, font1, boardP}
+use Rattle.layout.specs.Boards.{dark, config, character, font1, boardP, option, boardWith}
 use Rattle.counts.specs.declared.Placed.{Placed}
-use Rattle.counts.specs.Placing.{fontsIn, withCounts}
+use Rattle.counts.specs.Placing.{withCounts}
 
--- answer number n of a text, on a slice of 1,400 records
+-- answer number n of a text on a sign, on a slice of 1,400 records
+abbrev placedOn : List ℕ → String → ℕ → Placed
+placedOn file t n = withCounts (signFile file) (ascii t) (result file (ascii t) n 1400)
+
 abbrev placed : String → ℕ → Placed
-placed t n = withCounts (fontsIn (signFile boardP)) (ascii t) (result boardP (ascii t) n 1400)
+placed = placedOn boardP
 
 record Examples : Type 0 where
   -- two characters in one span
@@ -45,16 +49,18 @@ record Examples : Type 0 where
   -- a refusal has none: not of what was looked up before the missing character, nor of a pass that was placed before
   missed : placed "AC" 0 ≡ record { answer = Refused (refusal 12 0 2 67); looked = 0; spans = 0 }
   later-pass : placed "AB[tr1,1,12,7]AB" 0 ≡ record { answer = Refused (refusal 13 14 2 0); looked = 0; spans = 0 }
+  -- A4: a letter for which a capital stands in is looked up once
+  stand-ins : placedOn (boardWith (option 4)) "aB[hc62]" 0 ≡ record { answer = On 30 2; looked = 3; spans = 2 }
 
 examples : Examples
-unfolding digitOf readFrom readDigits readNumber versionId first extra lowByte high fitsDue afterByte wellFormedFrom wellFormed codeOf codesFrom
-    codes allLatin1 plainLen tagLen restLen slices isPair lastByte shapeOf lower upTo pastSep holds number optional xy rectangle color readOptional
+unfolding digitOf readFrom readDigits readNumber versionId first extra lowByte high fitsDue afterByte wellFormedFrom wellFormed codeOf codesFrom codes
+    allLatin1 plainLen tagLen restLen slices isPair lastByte shapeOf lower upTo pastSep holds number optional xy rectangle color readOptional
     optionalVersion justification readXy rectangleOf readRgb rgbOf colorOf newLine newPageTag fontTag justificationLine justificationPage pageTime
     pageBackground colorForeground colorBackground fourOf fifth colorRectangle lastFour textRectangle spacingCharacter hexadecimalCharacter flashOn
     flashOff flashTime field pointOf graphicAt graphic spacingCharacterEnd flashEnd textOf manufacturerSpecific manufacturerSpecificEnd movement
     movementParts movementOf moved movingTextMode movingTextLinear movingText endName firstName nameBy nameOf tagValue fieldTag tagItem textItem itemOf
-    littleAt bodyLen kindOf wholeRecord firstPiece restLenRecord cutFrom pieces configOf sizeOk justOk notZero bitsOk tagsOk configOk isConfig
-    charactersOf fontsOf configIn member isFont bitmapLen isCharacter faultFrom firstBad fault signFile items measureIn meterOf boardOf lookup characterIn
-    widened widthAfter textWidth lookedUp step opening events orElse unless due lineGap beforeOf afterOf linesOf aboveOf belowOf xOf baseOf recordOf spanFault
-    passFault passRecords pages admission result dark config character font1 boardP
-examples = record { text = refl; kinds = refl; page-off = refl; second = refl; last = refl; missed = refl; later-pass = refl }
+    littleAt bodyLen kindOf wholeRecord firstPiece restLenRecord cutFrom pieces configOf sizeOk justOk notZero bitsOk tagsOk configOk isConfig charactersOf
+    fontsOf hasOption pastOption pastOptions configIn member isFont bitmapLen isCharacter faultFrom firstBad fault signFile items measureIn meterOf boardOf
+    lookup characterIn isCapital standIns widened widthAfter textWidth lookedUp step opening events orElse unless due lineGap beforeOf afterOf linesOf
+    aboveOf belowOf xOf baseOf recordOf spanFault passFault passRecords pages admission result dark config character font1 boardP option boardWith
+examples = record { text = refl; kinds = refl; page-off = refl; second = refl; last = refl; missed = refl; later-pass = refl; stand-ins = refl }

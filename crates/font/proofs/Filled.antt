@@ -42,7 +42,7 @@ abbrev pub kept : ℕ → ℕ → ℕ
 kept zero later = later
 kept (suc x) later = suc x
 
-kept-some : (x later : ℕ) → (x ≡ 0 → ⊥) → kept x later ≡ x
+pub kept-some : (x later : ℕ) → (x ≡ 0 → ⊥) → kept x later ≡ x
 kept-some zero later n = absurd (n refl)
 kept-some (suc x) later n = refl
 

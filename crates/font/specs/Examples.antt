@@ -2,9 +2,10 @@
 use Prim.Native.Nat.{ℕ}
 use mathlib.Core.Path.{_≡_, refl}
 use mathlib.Core.List.{List, [], _∷_, map}
+use mathlib.Core.Bool.{true, false}
 use Rattle.utf8.specs.Utf8.{extra, codeOf, codesFrom, codes}
 use Rattle.sign.specs.Sign.{Character}
-use Rattle.font.specs.Character.{lookup, characterIn}
+use Rattle.font.specs.Character.{lookup, characterIn, isCapital, standIns, lettersOf}
 use Rattle.font.specs.Measure.{widened, widthAfter, textWidth, lookedUp, measureOf}
 use Rattle.font.specs.declared.Measure.{Measure}
 use Rattle.font.specs.declared.Measure.the-variants.{Width, Missing}
@@ -52,3 +53,24 @@ up-to-missing : map (measureOf letters 2) ((65 ∷ 66 ∷ 68 ∷ 69 ∷ 65 ∷ [
     ≡ looked (Missing 68) 3 ∷ looked (Missing 68) 1 ∷ looked (Width 12) 2 ∷ []
 unfolding textWidth widthAfter widened lookedUp characterIn lookup
 up-to-missing = refl
+
+-- A4: ac, Ac and abc with capitals that stand in, and without; d, é and { have none; @ and [ are no capitals
+stood-in : map (textWidth (lettersOf true letters) 2) ((97 ∷ 99 ∷ []) ∷ (65 ∷ 99 ∷ []) ∷ (97 ∷ 98 ∷ 99 ∷ []) ∷ (97 ∷ 100 ∷ []) ∷ (233 ∷ []) ∷ [])
+    ≡ Width 8 ∷ Width 8 ∷ Width 10 ∷ Missing 100 ∷ Missing 233 ∷ []
+unfolding textWidth widthAfter widened characterIn lookup isCapital standIns
+stood-in = refl
+
+without : map (textWidth (lettersOf false letters) 2) ((97 ∷ 99 ∷ []) ∷ (65 ∷ 99 ∷ []) ∷ []) ≡ Missing 97 ∷ Missing 99 ∷ []
+unfolding textWidth widthAfter widened characterIn lookup
+without = refl
+
+edges : map (textWidth (lettersOf true (ch 64 1 ∷ ch 65 5 ∷ ch 90 4 ∷ ch 91 3 ∷ [])) 2) ((96 ∷ []) ∷ (97 ∷ []) ∷ (122 ∷ []) ∷ (123 ∷ []) ∷ [])
+    ≡ Missing 96 ∷ Width 5 ∷ Width 4 ∷ Missing 123 ∷ []
+unfolding textWidth widthAfter widened characterIn lookup isCapital standIns
+edges = refl
+
+-- a font that has the small letter uses that, whether it comes before the capital or after it
+own-small : map (λ (chs : List Character). textWidth (lettersOf true chs) 2 (97 ∷ 65 ∷ [])) ((ch 97 3 ∷ ch 65 5 ∷ []) ∷ (ch 65 5 ∷ ch 97 3 ∷ []) ∷ [])
+    ≡ Width 10 ∷ Width 10 ∷ []
+unfolding textWidth widthAfter widened characterIn lookup isCapital standIns
+own-small = refl

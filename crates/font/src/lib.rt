@@ -9,8 +9,9 @@ ghost use Rattle.utf8.specs.Utf8.{codes};
 ghost use Rattle.records.specs.Record.{piecesAt};
 ghost use Rattle.sign.specs.Sign.{charactersOf};
 ghost use Rattle.font.specs.Table.{entryNumbered};
-ghost use Rattle.font.specs.Character.{lookup, characterIn, charactersAt, charactersBy};
+ghost use Rattle.font.specs.Character.{lookup, characterIn, charactersAt, lettersAt, charactersBy};
 ghost use Rattle.font.specs.Widths.{noted, Unfilled, StandsFor, Widths};
+ghost use Rattle.font.specs.StandIn.{standIn, stoodIn, StoodIn};
 ghost use Rattle.font.specs.Measure.{widened, measureOf};
 ghost use Rattle.font.specs.Grown.{OneMore};
 
@@ -109,8 +110,8 @@ fn find(file: &[u8], first: usize, count: usize, code: u16) -> Found
     Found::Missing
 }
 
-// The character with a code point in a font of the file: a font's numbers have 16 bits.
-fn character(file: &[u8], entry: FontEntry, code: u32) -> Found
+// The font's own character with a code point: a font's numbers have 16 bits.
+fn own_character(file: &[u8], entry: FontEntry, code: u32) -> Found
     ensures { λ r. ⌜ r ≡ characterIn code (charactersAt (now (file .entry)) entry) ⌝ }
 {
     if code == 0 {
@@ -120,6 +121,32 @@ fn character(file: &[u8], entry: FontEntry, code: u32) -> Found
         return Found::Missing;
     }
     find(file, entry.first, entry.characters, code as u16)
+}
+
+// What stands in for a code point that the font does not define: for a to z the capital, if the file lets it.
+fn stand_in(file: &[u8], entry: FontEntry, capitals: bool, code: u32) -> Found
+    ensures { λ r. ⌜ r ≡ standIn capitals code (charactersAt (now (file .entry)) entry) ⌝ }
+{
+    if !capitals {
+        return Found::Missing;
+    }
+    if code < 97 {
+        return Found::Missing;
+    }
+    if 122 < code {
+        return Found::Missing;
+    }
+    own_character(file, entry, code - 32)
+}
+
+// The character found for a code point.
+fn character(file: &[u8], entry: FontEntry, capitals: bool, code: u32) -> Found
+    ensures { λ r. ⌜ r ≡ characterIn code (lettersAt (now (file .entry)) entry capitals) ⌝ }
+{
+    match own_character(file, entry, code) {
+        Found::Is(width, bitmap) => Found::Is(width, bitmap),
+        Found::Missing => stand_in(file, entry, capitals, code),
+    }
 }
 
 // Notes a character's width and 1 at its number, if the table has it and it is the first with that number.
@@ -136,8 +163,8 @@ fn note(table: &mut [u16], number: u16, width: u8)
     table[k] = base::wide16(width) + 1;
 }
 
-// Fills a table of zeros with the widths of a font: at each code the width and 1, or 0 for a code that is missing.
-pub fn widths(file: &[u8], entry: FontEntry, table: &mut [u16])
+// Fills a table of zeros with the widths of a font's own characters.
+fn own_widths(file: &[u8], entry: FontEntry, table: &mut [u16])
     requires { ⌜ Unfilled (now table) ⌝ }
     ensures { λ r. ⌜ Widths (charactersAt (now (file .entry)) entry) (now (table .exit)) ⌝ }
 {
@@ -155,6 +182,43 @@ pub fn widths(file: &[u8], entry: FontEntry, table: &mut [u16])
     }
 }
 
+// Notes at a small letter's code what its capital has there, if the table has the one and not the other.
+fn stand_at(table: &mut [u16], code: usize)
+    requires { ⌜ 32 ≤ code ⌝ }
+    ensures { λ r. ⌜ now (table .exit) ≡ stoodIn (now (table .entry)) code ⌝ }
+{
+    if table.len() <= code {
+        return;
+    }
+    if table[code] != 0 {
+        return;
+    }
+    table[code] = table[code - 32];
+}
+
+// The same for a to z.
+fn stand_ins(table: &mut [u16])
+    ensures { λ r. ⌜ StoodIn (now (table .entry)) (now (table .exit)) ⌝ }
+{
+    let mut code: usize = 97;
+    while code < 123 {
+        stand_at(table, code);
+        code += 1;
+    }
+}
+
+// Fills a table of zeros with the widths of a font: at each code the width and 1, or 0 for a code that is missing.
+pub fn widths(file: &[u8], entry: FontEntry, capitals: bool, table: &mut [u16])
+    requires { ⌜ Unfilled (now table) ⌝ }
+    ensures { λ r. ⌜ Widths (lettersAt (now (file .entry)) entry capitals) (now (table .exit)) ⌝ }
+{
+    own_widths(file, entry, table);
+    if !capitals {
+        return;
+    }
+    stand_ins(table);
+}
+
 // A width with one character more.
 fn wider(width: u32, spacing: u16, more: u16) -> u32
     requires { ⌜ width ≤ 65790 * 65000 ⌝ }
@@ -169,15 +233,15 @@ fn wider(width: u32, spacing: u16, more: u16) -> u32
 }
 
 // A character's width and 1, or 0 for one that is missing; the table has those of the codes below its length.
-fn width_in(file: &[u8], entry: FontEntry, table: &[u16], code: u32) -> u16
-    requires { ⌜ Widths (charactersAt (now file) entry) (now table) ⌝ }
-    ensures { λ r. ⌜ StandsFor (charactersAt (now (file .entry)) entry) code r ⌝ }
+fn width_in(file: &[u8], entry: FontEntry, capitals: bool, table: &[u16], code: u32) -> u16
+    requires { ⌜ Widths (lettersAt (now file) entry capitals) (now table) ⌝ }
+    ensures { λ r. ⌜ StandsFor (lettersAt (now (file .entry)) entry capitals) code r ⌝ }
 {
     let k = code as usize;
     if k < table.len() {
         return table[k];
     }
-    let Found::Is(width, _) = character(file, entry, code) else {
+    let Found::Is(width, _) = character(file, entry, capitals, code) else {
         return 0;
     };
     base::wide16(width) + 1
@@ -187,17 +251,18 @@ fn width_in(file: &[u8], entry: FontEntry, table: &[u16], code: u32) -> u16
 pub fn with_character(
     file: &[u8],
     entry: FontEntry,
+    capitals: bool,
     table: &[u16],
     width: u32,
     count: usize,
     code: u32,
     spacing: u16,
 ) -> Looked
-    requires { ⌜ Widths (charactersAt (now file) entry) (now table) ⌝ }
+    requires { ⌜ Widths (lettersAt (now file) entry capitals) (now table) ⌝ }
     requires { ⌜ (width ≤ 65790 * 65000) × (count ≤ 65000) ⌝ }
-    ensures { λ r. ⌜ OneMore (charactersAt (now (file .entry)) entry) spacing width count code r ⌝ }
+    ensures { λ r. ⌜ OneMore (lettersAt (now (file .entry)) entry capitals) spacing width count code r ⌝ }
 {
-    let more = width_in(file, entry, table, code);
+    let more = width_in(file, entry, capitals, table, code);
     let looked = count + 1;
     if more == 0 {
         return Looked {
@@ -212,17 +277,24 @@ pub fn with_character(
 }
 
 // The width of a short text, and how many characters were looked up.
-fn short_width(file: &[u8], entry: FontEntry, table: &[u16], text: &[u8], spacing: u16) -> Looked
-    requires { ⌜ Widths (charactersAt (now file) entry) (now table) ⌝ }
+fn short_width(
+    file: &[u8],
+    entry: FontEntry,
+    capitals: bool,
+    table: &[u16],
+    text: &[u8],
+    spacing: u16,
+) -> Looked
+    requires { ⌜ Widths (lettersAt (now file) entry capitals) (now table) ⌝ }
     requires { ⌜ length (now text) ≤ 65000 ⌝ }
-    ensures { λ r. ⌜ r ≡ measureOf (charactersAt (now (file .entry)) entry) spacing (codes (now (text .entry))) ⌝ }
+    ensures { λ r. ⌜ r ≡ measureOf (lettersAt (now (file .entry)) entry capitals) spacing (codes (now (text .entry))) ⌝ }
 {
     let mut w: u32 = 0;
     let mut n: usize = 0;
     let mut at: usize = 0;
     while at < text.len() {
         let c = utf8::code_at(text, at);
-        let r = with_character(file, entry, table, w, n, c.code, spacing);
+        let r = with_character(file, entry, capitals, table, w, n, c.code, spacing);
         let m = r.measure;
         let Measure::Width(v) = m else {
             return r;
@@ -239,12 +311,19 @@ fn short_width(file: &[u8], entry: FontEntry, table: &[u16], text: &[u8], spacin
 
 // The width of a text, with a table of the font's widths, and how many characters were looked up: of its first 65,000 bytes,
 // where it has more.
-pub fn text_width(file: &[u8], entry: FontEntry, table: &[u16], text: &[u8], spacing: u16) -> Looked
-    requires { ⌜ Widths (charactersAt (now file) entry) (now table) ⌝ }
-    ensures { λ r. ⌜ r ≡ measureOf (charactersAt (now (file .entry)) entry) spacing (codes (take 65000 (now (text .entry)))) ⌝ }
+pub fn text_width(
+    file: &[u8],
+    entry: FontEntry,
+    capitals: bool,
+    table: &[u16],
+    text: &[u8],
+    spacing: u16,
+) -> Looked
+    requires { ⌜ Widths (lettersAt (now file) entry capitals) (now table) ⌝ }
+    ensures { λ r. ⌜ r ≡ measureOf (lettersAt (now (file .entry)) entry capitals) spacing (codes (take 65000 (now (text .entry)))) ⌝ }
 {
     if text.len() <= 65000 {
-        return short_width(file, entry, table, text, spacing);
+        return short_width(file, entry, capitals, table, text, spacing);
     }
-    short_width(file, entry, table, &text[..65000], spacing)
+    short_width(file, entry, capitals, table, &text[..65000], spacing)
 }

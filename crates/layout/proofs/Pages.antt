@@ -200,19 +200,20 @@ measure-none : (m : Measure) → missing m ≡ none → m ≡ Width (widthOf m)
 measure-none (Width w) q = refl
 measure-none (Missing c) q = absurd (let z : _≡_ {A = ℕ} 0 1 = cc in omega arith)
 
-char-none : (msg : List ℕ) (e : Entry) (f : Font) (x : Option (ℕ × ℕ)) → charFaultAfter msg e x f ≡ none → measureIn msg e f ≡ Width (widthIn msg e (some f))
-char-none msg e f none q = measure-none (measureIn msg e f) q
-char-none msg e f (some x) q = absurd (let z : _≡_ {A = ℕ} 0 1 = cc in omega arith)
+char-none : (msg : List ℕ) (e : Entry) (capitals : Bool) (f : Font) (x : Option (ℕ × ℕ)) → charFaultAfter msg e capitals x f ≡ none
+    → measureIn msg e capitals f ≡ Width (widthIn msg e capitals (some f))
+char-none msg e capitals f none q = measure-none (measureIn msg e capitals f) q
+char-none msg e capitals f (some x) q = absurd (let z : _≡_ {A = ℕ} 0 1 = cc in omega arith)
 
-measured-in : (msg : List ℕ) (fs : List Font) (e : Entry) (q : Span) (o : Option Font)
-    → fontNumbered (e .state .font) fs ≡ o → faultIn msg e o ≡ none → q .width ≡ widthIn msg e o → q .height ≡ heightIn o → Measured msg fs e q
+measured-in : (c : Config) (msg : List ℕ) (fs : List Font) (e : Entry) (q : Span) (o : Option Font) → fontNumbered (e .state .font) fs ≡ o
+    → faultIn msg e (c .capitals) o ≡ none → q .width ≡ widthIn msg e (c .capitals) o → q .height ≡ heightIn o → Measured c msg fs e q
 unfolding measureIn
-measured-in msg fs e q none p f w h = absurd (let z : _≡_ {A = ℕ} 0 1 = cc in omega arith)
-measured-in msg fs e q (some f) p g w h =
+measured-in c msg fs e q none p f w h = absurd (let z : _≡_ {A = ℕ} 0 1 = cc in omega arith)
+measured-in c msg fs e q (some f) p g w h =
     record {
       font = f;
       found = p;
-      width = char-none msg e f (versionFault (e .state .version) f) g ∙ ap Width (sym w);
+      width = char-none msg e (c .capitals) f (versionFault (e .state .version) f) g ∙ ap Width (sym w);
       height = h;
     }
 
@@ -242,9 +243,9 @@ module _ (c : Config) (fs : List Font) (msg : List ℕ) where
   unfolding spanFault
   meter-fault r es e i q = first-none (s .meter .fault) (in-select (same e) (same-refl e) i) (fault-none s r es e _ ((or-none _ _ q) .0))
 
-  pub measured : (r : Rect) (es : List Entry) (e : Entry) → In e es → spanFault s r es e ≡ none → Measured msg fs e (recordOf s r es e)
+  pub measured : (r : Rect) (es : List Entry) (e : Entry) → In e es → spanFault s r es e ≡ none → Measured c msg fs e (recordOf s r es e)
   unfolding recordOf boardOf meterOf
-  measured r es e i q = measured-in msg fs e (recordOf s r es e) (fontNumbered (e .state .font) fs) refl (meter-fault r es e i q) refl refl
+  measured r es e i q = measured-in c msg fs e (recordOf s r es e) (fontNumbered (e .state .font) fs) refl (meter-fault r es e i q) refl refl
 
   tells : (r : Rect) (es : List Entry) (e : Entry) → Tells r e (recordOf s r es e)
   unfolding recordOf

@@ -81,13 +81,14 @@ module _ (msg : List ℕ) (e : Entry) where
   font-late none = faulty {x = (10, e .state .font)} (omega arith)
   font-late (some f) = version-late (e .state .version) f
 
-  char-late : (x : Option (ℕ × ℕ)) (f : Font) → Late x → Late (charFaultAfter msg e x f)
-  char-late none f h = missing-late (measureIn msg e f)
-  char-late (some x) f h = h
+  module _ (capitals : Bool) where
+    char-late : (x : Option (ℕ × ℕ)) (f : Font) → Late x → Late (charFaultAfter msg e capitals x f)
+    char-late none f h = missing-late (measureIn msg e capitals f)
+    char-late (some x) f h = h
 
-  fault-late : (o : Option Font) → Late (faultIn msg e o)
-  fault-late none = faulty {x = (10, e .state .font)} (omega arith)
-  fault-late (some f) = char-late (versionFault (e .state .version) f) f (version-late (e .state .version) f)
+    fault-late : (o : Option Font) → Late (faultIn msg e capitals o)
+    fault-late none = faulty {x = (10, e .state .font)} (omega arith)
+    fault-late (some f) = char-late (versionFault (e .state .version) f) f (version-late (e .state .version) f)
 
 -- of every span
 record LateFaults (s : Board) : Type 0 where
@@ -97,7 +98,10 @@ record LateFaults (s : Board) : Type 0 where
 board-late : (msg : List ℕ) (c : Config) (fs : List Font) → LateFaults (boardOf msg c fs)
 unfolding boardOf meterOf
 board-late msg c fs =
-    record { fault = λ e. fault-late msg e (fontNumbered (e .state .font) fs); font = λ e. font-late msg e (fontNumbered (e .state .font) fs) }
+    record {
+      fault = λ e. fault-late msg e (c .capitals) (fontNumbered (e .state .font) fs);
+      font = λ e. font-late msg e (fontNumbered (e .state .font) fs);
+    }
 
 -- a slice that is wrong has number 5 or more
 abbrev LateMark : Mark → Type 0

@@ -20,7 +20,7 @@ use Rattle.layout.specs.declared.Span.{Span}
 use Rattle.layout.specs.declared.Answer.the-variants.{On, Off, End, Refused}
 use Rattle.layout.specs.Types.{items}
 use Rattle.refusal.specs.Refusals.{refusal}
-use Rattle.font.specs.Character.{lookup, characterIn}
+use Rattle.font.specs.Character.{lookup, characterIn, isCapital, standIns}
 use Rattle.font.specs.Measure.{widened, widthAfter, textWidth}
 use Rattle.layout.specs.Fonts.{measureIn, meterOf, boardOf}
 use Rattle.layout.specs.Read.{step, opening, events}
@@ -125,6 +125,27 @@ within rx ry rw rh s =
       «rect_height» = rh;
     }
 
+-- an [hc] on board P that stands first: start, length, code and width
+unfoldable pub hex : ℕ → ℕ → ℕ → ℕ → Span
+hex start len code w =
+    record {
+      kind = 1;
+      start = start;
+      length = len;
+      code = code;
+      x = 0;
+      y = 0;
+      width = w;
+      height = 7;
+      font = 1;
+      line = 0;
+      span = 0;
+      «rect_x» = 1;
+      «rect_y» = 1;
+      «rect_width» = 50;
+      «rect_height» = 24;
+    }
+
 unfoldable pub lit : ℕ → ℕ → List Span → Result
 lit d n rs = record { answer = On d n; written = rs }
 
@@ -181,7 +202,17 @@ pub record Boards : Type 0 where
   -- 1, an empty sign file; 4, a slice of 1,399 records
   pub no-sign : calls [] (ascii "A") 1 0 ≡ refused 1 0 0 0 ∷ []
   pub short-slice : result boardP (ascii "A") 0 1399 ≡ refused 4 0 0 0
-  -- document 02, A4: kind 4 twice, and after a font: 1 at its offset
+  -- document 02, A4: with kind 4 "ab" lists as "AB" does; the record of an [hc] "keeps the code typed"
+  pub capitals : board (boardWith (option 4)) "ab" 2 ≡ board (boardWith (option 4)) "AB" 2
+  pub capitals-are : board (boardWith (option 4)) "[jl4]aB" 2 ≡ lit 30 1 (text 5 2 37 0 13 0 0 ∷ []) ∷ end 1 ∷ []
+  pub capital-code : board (boardWith (option 4)) "[hc61]" 1 ≡ lit 30 1 (hex 0 6 97 5 ∷ []) ∷ []
+  -- "A letter with neither form still gives 12 with the code typed"; so does a small letter without kind 4
+  pub neither : board (boardWith (option 4)) "Ac" 1 ≡ refused 12 0 2 99 ∷ []
+  pub neither-code : board (boardWith (option 4)) "[hc63]" 1 ≡ refused 12 0 6 99 ∷ []
+  pub no-capitals : board boardP "ab" 1 ≡ refused 12 0 2 97 ∷ []
+  -- a font that has a, 3 wide, and A: "aA" is 3 + 2 + 5 wide
+  pub own-small : board (boardWith (option 4) ++ character 7 97 3) "aA" 1 ≡ lit 30 1 (text 0 2 0 0 10 0 0 ∷ []) ∷ []
+  -- kind 4 twice, and after a font: 1 at its offset
   pub option-twice : board (boardWith (option 4 ++ option 4)) "A" 1 ≡ refused 1 23 0 0 ∷ []
   pub option-late : board (boardP ++ option 4) "A" 1 ≡ refused 1 64 0 0 ∷ []
 
@@ -194,9 +225,9 @@ unfolding times digitOf readFrom readDigits readNumber versionId first extra low
     movementParts movementOf moved movingTextMode movingTextLinear movingText endName firstName nameBy nameOf tagValue fieldTag tagItem textItem
     itemOf littleAt bodyLen kindOf wholeRecord firstPiece restLenRecord cutFrom pieces configOf sizeOk justOk notZero bitsOk tagsOk configOk isConfig
     charactersOf fontsOf configIn member isFont bitmapLen isCharacter hasOption pastOption pastOptions faultFrom firstBad fault signFile items
-    measureIn meterOf boardOf lookup characterIn widened widthAfter textWidth step opening events orElse unless due lineGap beforeOf afterOf linesOf
-    aboveOf belowOf xOf baseOf recordOf spanFault passFault passRecords pages admission result dark config character font1 boardP boardM boardC option
-    boardWith calls board text within lit off end refused
+    measureIn meterOf boardOf lookup characterIn isCapital standIns widened widthAfter textWidth step opening events orElse unless due lineGap
+    beforeOf afterOf linesOf aboveOf belowOf xOf baseOf recordOf spanFault passFault passRecords pages admission result dark config character font1
+    boardP boardM boardC option boardWith calls board text within hex lit off end refused
 boards =
     record {
       empty = refl;
@@ -228,6 +259,13 @@ boards =
       too-long = refl;
       no-sign = refl;
       short-slice = refl;
+      capitals = refl;
+      capitals-are = refl;
+      capital-code = refl;
+      neither = refl;
+      neither-code = refl;
+      no-capitals = refl;
+      own-small = refl;
       option-twice = refl;
       option-late = refl;
     }

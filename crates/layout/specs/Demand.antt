@@ -28,6 +28,7 @@ use Rattle.layout.specs.declared.Entry.{Entry}
 use Rattle.layout.specs.Types.{Item, items, unwrapOr, Board}
 use Rattle.font.specs.declared.Measure.the-variants.{Width}
 use Rattle.font.specs.Table.{fontNumbered}
+use Rattle.font.specs.Character.{lettersOf}
 use Rattle.font.specs.Measure.{textWidth}
 use Rattle.layout.specs.Fonts.{charsOf, boardOf}
 use Rattle.layout.specs.Placing.{group, due, recordOf, passRecords}
@@ -215,11 +216,13 @@ pub record Tells (r : Rect) (e : Entry) (q : Span) : Type 0 where
   pub rect-width : q .«rect_width» ≡ r .width
   pub rect-height : q .«rect_height» ≡ r .height
 
--- "A span's width is the measure of its text, 0 for an empty one; its height is its font's, an empty span's too"; its font has its characters
-pub record Measured (msg : List ℕ) (fs : List SignFont) (e : Entry) (q : Span) : Type 0 where
+-- "A span's width is the measure of its text, 0 for an empty one; its height is its font's, an empty span's too"; its font has its characters, or
+-- capitals that stand in for them (document 02, A4)
+pub record Measured (c : Config) (msg : List ℕ) (fs : List SignFont) (e : Entry) (q : Span) : Type 0 where
   pub font : SignFont
   pub found : fontNumbered (e .state .font) fs ≡ some font
-  pub width : textWidth (font .characters) (unwrapOr (e .state .«char_spacing») (font .charSpacing)) (charsOf msg e) ≡ Width (q .width)
+  pub width : textWidth (lettersOf (c .capitals) (font .characters)) (unwrapOr (e .state .«char_spacing») (font .charSpacing)) (charsOf msg e)
+      ≡ Width (q .width)
   pub height : q .height ≡ font .height
 
 -- "the character height is 0 or divides every font height"
@@ -250,7 +253,7 @@ module _ (c : Config) (fs : List SignFont) (msg : List ℕ) (r : Rect) (es : Lis
     -- and its page justification that of the last [jp]
     pub just : (e : Entry) → In e es → e .state .«just_page» ≡ justAtPlace c msg (e .start)
     pub tells : (e : Entry) → In e es → Tells r e (record-of e)
-    pub measured : (e : Entry) → In e es → Measured msg fs e (record-of e)
+    pub measured : (e : Entry) → In e es → Measured c msg fs e (record-of e)
     -- "each span lies inside its text rectangle on all four sides"; "For the top and bottom of middle placing this holds if" the height divides
     pub across : (e : Entry) → In e es → Across r (record-of e)
     pub down : (e : Entry) → In e es → (e .state .«just_page» ≡ 3 → Divides c fs) → Down r (record-of e)

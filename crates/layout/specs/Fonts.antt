@@ -2,12 +2,14 @@
 use Prim.Native.Nat.{ℕ}
 use mathlib.Core.Option.{Option, none, some}
 use mathlib.Core.List.{List, [], _∷_}
+use mathlib.Core.Bool.{Bool}
 use lib.Dec.{eqb}
 use lib.ListN.{take, drop}
 use Rattle.base.specs.Pick.{pick}
 use Rattle.records.specs.declared.Config.{Config}
 use Rattle.sign.specs.Sign.{Font}
 use Rattle.font.specs.Table.{fontNumbered}
+use Rattle.font.specs.Character.{lettersOf}
 use Rattle.font.specs.declared.Measure.{Measure}
 use Rattle.font.specs.declared.Measure.the-variants.{Width, Missing}
 use Rattle.font.specs.Measure.{textWidth}
@@ -35,7 +37,7 @@ abbrev pub widthOf : Measure → ℕ
 widthOf (Width w) = w
 widthOf (Missing c) = 0
 
--- a span in its font, if that is defined
+-- a span in its font, if that is defined; capitals: they stand in for missing small letters (document 02, A4)
 module _ (msg : List ℕ) (e : Entry) where
   -- 10: "Font not defined; detail its number"
   abbrev pub fontFaultIn : Option Font → Option (ℕ × ℕ)
@@ -47,22 +49,22 @@ module _ (msg : List ℕ) (e : Entry) where
   spacingIn none = unwrapOr (e .state .«char_spacing») 0
   spacingIn (some f) = unwrapOr (e .state .«char_spacing») (f .charSpacing)
 
-  -- "Font measure", of what the span prints
-  unfoldable pub measureIn : Font → Measure
-  measureIn f = textWidth (f .characters) (spacingIn (some f)) (charsOf msg e)
+  -- "Font measure", of what the span prints: "Measuring, placing and painting follow the character found"
+  unfoldable pub measureIn : Bool → Font → Measure
+  measureIn capitals f = textWidth (lettersOf capitals (f .characters)) (spacingIn (some f)) (charsOf msg e)
 
   -- 10, 11, then 12
-  abbrev pub charFaultAfter : Option (ℕ × ℕ) → Font → Option (ℕ × ℕ)
-  charFaultAfter none f = missing (measureIn f)
-  charFaultAfter (some r) f = some r
+  abbrev pub charFaultAfter : Bool → Option (ℕ × ℕ) → Font → Option (ℕ × ℕ)
+  charFaultAfter capitals none f = missing (measureIn capitals f)
+  charFaultAfter capitals (some r) f = some r
 
-  abbrev pub faultIn : Option Font → Option (ℕ × ℕ)
-  faultIn none = some (10, e .state .font)
-  faultIn (some f) = charFaultAfter (versionFault (e .state .version) f) f
+  abbrev pub faultIn : Bool → Option Font → Option (ℕ × ℕ)
+  faultIn capitals none = some (10, e .state .font)
+  faultIn capitals (some f) = charFaultAfter capitals (versionFault (e .state .version) f) f
 
-  abbrev pub widthIn : Option Font → ℕ
-  widthIn none = 0
-  widthIn (some f) = widthOf (measureIn f)
+  abbrev pub widthIn : Bool → Option Font → ℕ
+  widthIn capitals none = 0
+  widthIn capitals (some f) = widthOf (measureIn capitals f)
 
 abbrev pub heightIn : Option Font → ℕ
 heightIn none = 0
@@ -72,12 +74,12 @@ abbrev pub lineSpacingIn : Option Font → ℕ
 lineSpacingIn none = 0
 lineSpacingIn (some f) = f .lineSpacing
 
-unfoldable pub meterOf : List ℕ → List Font → Meter
-meterOf msg fs =
+unfoldable pub meterOf : List ℕ → Bool → List Font → Meter
+meterOf msg capitals fs =
     record {
-      fault = λ e. faultIn msg e (fontNumbered (e .state .font) fs);
+      fault = λ e. faultIn msg e capitals (fontNumbered (e .state .font) fs);
       fontFault = λ e. fontFaultIn msg e (fontNumbered (e .state .font) fs);
-      width = λ e. widthIn msg e (fontNumbered (e .state .font) fs);
+      width = λ e. widthIn msg e capitals (fontNumbered (e .state .font) fs);
       height = λ e. heightIn (fontNumbered (e .state .font) fs);
       spacing = λ e. spacingIn msg e (fontNumbered (e .state .font) fs);
       lineSpacing = λ e. lineSpacingIn (fontNumbered (e .state .font) fs);
@@ -85,4 +87,4 @@ meterOf msg fs =
 
 -- the sign of an accepted sign file, for a message
 unfoldable pub boardOf : List ℕ → Config → List Font → Board
-boardOf msg c fs = record { config = c; meter = meterOf msg fs }
+boardOf msg c fs = record { config = c; meter = meterOf msg (c .capitals) fs }

@@ -22,7 +22,7 @@ use Rattle.sign.specs.Accepted.{GoodFont, Bytes}
 use Rattle.sign.specs.declared.FontEntry.{FontEntry}
 use Rattle.sign.specs.declared.SignFile.{SignFile}
 use Rattle.sign.proofs.Answer.{Accepts, accepts}
-use Rattle.font.specs.Character.{characterIn, charactersAt}
+use Rattle.font.specs.Character.{characterIn, charactersAt, lettersAt}
 use Rattle.font.specs.Table.{fontNumbered, entryNumbered, entryFound}
 use Rattle.font.specs.Widths.{Widths}
 use Rattle.font.specs.declared.Found.{Found}
@@ -40,7 +40,7 @@ use Rattle.font.specs.Grown.{OneMore}
 use Rattle.layout.specs.declared.Entry.{Entry}
 use Rattle.layout.specs.Types.{unwrapOr, Meter}
 use Rattle.layout.specs.Fonts.{versionFault, charsOf, widthOf, measureIn, charFaultAfter, faultIn, meterOf}
-use Rattle.counts.specs.Placing.{lookedIn, fontsIn}
+use Rattle.counts.specs.Placing.{fontsIn, capitalsIn, lookedIn}
 use Rattle.rows.specs.declared.Row.{Row}
 use Rattle.rows.specs.Measured.{flag, faultNumber, faultDetail, gaugeOf, rowBy, rowOf}
 use Rattle.rows.specs.declared.Fault.{Fault}
@@ -151,39 +151,40 @@ pub ruleset fault-ways = (fault-version, fault-none, fault-missing)
 abbrev faultAs : Option (ℕ × ℕ) → Fault
 faultAs o = fault (faultNumber o) (faultDetail o)
 
-fault-parts : (msg : List ℕ) (e : Entry) (f : Font) (v : OptNum) (m : Measure) → measureIn msg e f ≡ m
-    → faultBy (versionNumber v (f .version)) m ≡ faultAs (charFaultAfter msg e (versionFault v f) f)
-fault-parts msg e f None (Width w) q = rw q
-fault-parts msg e f None (Missing c) q = rw q
-fault-parts msg e f (Some n) m q = go (eqb n (f .version)) m q
+fault-parts : (msg : List ℕ) (e : Entry) (capitals : Bool) (f : Font) (v : OptNum) (m : Measure) → measureIn msg e capitals f ≡ m
+    → faultBy (versionNumber v (f .version)) m ≡ faultAs (charFaultAfter msg e capitals (versionFault v f) f)
+fault-parts msg e capitals f None (Width w) q = rw q
+fault-parts msg e capitals f None (Missing c) q = rw q
+fault-parts msg e capitals f (Some n) m q = go (eqb n (f .version)) m q
   where
-    go : (t : Bool) (x : Measure) → measureIn msg e f ≡ x → faultBy (pick t 0 11) x ≡ faultAs (charFaultAfter msg e (pick t none (some (11, 0))) f)
+    go : (t : Bool) (x : Measure) → measureIn msg e capitals f ≡ x
+        → faultBy (pick t 0 11) x ≡ faultAs (charFaultAfter msg e capitals (pick t none (some (11, 0))) f)
     go true (Width w) d = rw d
     go true (Missing c) d = rw d
     go false x d = refl
 
 -- `gauge_in`: what its calls answered
-module _ (file msg : List ℕ) (e : Entry) (f : FontEntry) where
+module _ (file msg : List ℕ) (e : Entry) (f : FontEntry) (capitals : Bool) where
   abbrev spacingBy : ℕ → ℕ
   spacingBy = unwrapOr (e .state .«char_spacing»)
 
   pub gauge-is : {d s h l w n : ℕ} {m : Looked} {x : Fault} → d ≡ f .«char_spacing» → s ≡ unwrapOr (e .state .«char_spacing») d
-      → WidthFound (charactersAt file f) s (charsOf msg e) m → n ≡ versionNumber (e .state .version) (f .«version_id») → x ≡ faultBy n (m .measure)
+      → WidthFound (lettersAt file f capitals) s (charsOf msg e) m → n ≡ versionNumber (e .state .version) (f .«version_id») → x ≡ faultBy n (m .measure)
       → h ≡ f .height → l ≡ f .«line_spacing» → w ≡ widthOf (m .measure)
-      → GaugedIn msg e (some (fontAt file f))
+      → GaugedIn msg e capitals (some (fontAt file f))
       (record { gauge = record { spacing = s; height = h; «font_spacing» = l; width = w; fault = x .number; detail = x .detail }; looked = m .count })
-  unfolding gaugeFor fontAt measureIn
+  unfolding gaugeFor fontAt measureIn lettersAt
   gauge-is {d} {s} {h} {l} {w} {n} {m} {x} p a b c y j k i =
       let z : s ≡ spacingBy (f .«char_spacing») = a ∙ ap spacingBy p in
-      let q : measureIn msg e (fontAt file f) ≡ m .measure =
-      ap (λ (y : ℕ). textWidth (charactersAt file f) y (charsOf msg e)) (sym z) ∙ ap (λ (y : Looked). y .measure) (sym (b .is)) in
-      let r : x ≡ faultAs (faultIn msg e (some (fontAt file f))) =
-      y ∙ ap (λ (k : ℕ). faultBy k (m .measure)) c ∙ fault-parts msg e (fontAt file f) (e .state .version) (m .measure) q in
+      let q : measureIn msg e capitals (fontAt file f) ≡ m .measure =
+      ap (λ (y : ℕ). textWidth (lettersAt file f capitals) y (charsOf msg e)) (sym z) ∙ ap (λ (y : Looked). y .measure) (sym (b .is)) in
+      let r : x ≡ faultAs (faultIn msg e capitals (some (fontAt file f))) =
+      y ∙ ap (λ (k : ℕ). faultBy k (m .measure)) c ∙ fault-parts msg e capitals (fontAt file f) (e .state .version) (m .measure) q in
       record { is = rw (z, j, k, i, r, ← q); looked = ap (λ (y : Looked). y .count) (b .is) }
 
-gauge-none : (msg : List ℕ) (e : Entry) → gaugeFor msg e none ≡ gaugeFor [] e none
+gauge-none : (msg : List ℕ) (e : Entry) (capitals : Bool) → gaugeFor msg e capitals none ≡ gaugeFor [] e false none
 unfolding gaugeFor
-gauge-none msg e = refl
+gauge-none msg e capitals = refl
 
 -- ---- the font of a span
 
@@ -226,34 +227,41 @@ module _ (file : List ℕ) (t : SignFile) (n : ℕ) (widths : List ℕ) (f : Fon
   widths-none p x q = never (let z : _≡_ {A = ℕ} 0 1 = cc in z)
 
   module _ (x : FontEntry) (p : f ≡ EntryIs x) where
-    pub widths-some : Widths (charactersAt file x) widths → WidthsOf file t n widths
+    pub widths-some : Widths (lettersAt file x (t .config .capitals)) widths → WidthsOf file t n widths
     widths-some h y q =
         let d : x ≡ y = cc in
         rw d at h
 
-    pub widths-here : WidthsOf file t n widths → Widths (charactersAt file x) widths
+    pub widths-here : WidthsOf file t n widths → Widths (lettersAt file x (t .config .capitals)) widths
     widths-here h = h x (sym e ∙ p)
 
 -- the gauge of a span in the font that was found, or in none
-gauge-found : (file msg : List ℕ) (e : Entry) (o : Option Font) (g : Gauged) → fontNumbered (e .state .font) (fontsIn (signFile file)) ≡ o
-    → GaugedIn msg e o g → GaugedBy file msg e g
+gauge-found : (file msg : List ℕ) (e : Entry) (capitals : Bool) (o : Option Font) (g : Gauged) → capitalsIn (signFile file) ≡ capitals
+    → fontNumbered (e .state .font) (fontsIn (signFile file)) ≡ o → GaugedIn msg e capitals o g → GaugedBy file msg e g
 unfolding meterIn meterOf gaugeFor
-gauge-found file msg e o g h q =
-    record { is = q .is ∙ ap (gaugeFor msg e) (sym h); looked = q .looked ∙ ap (lookedIn (charsOf msg e)) (sym h) }
+gauge-found file msg e capitals o g c h q =
+    record {
+      is = q .is ∙ ap (λ (t : Bool). gaugeFor msg e t o) (sym c) ∙ ap (gaugeFor msg e (capitalsIn (signFile file))) (sym h);
+      looked =
+          q .looked ∙ ap (λ (t : Bool). lookedIn t (charsOf msg e) o) (sym c)
+          ∙ ap (lookedIn (capitalsIn (signFile file)) (charsOf msg e)) (sym h);
+    }
 
 -- `gauge_of`: f is the answer of `font_numbered`
 module _ (file msg : List ℕ) (e : Entry) (t : SignFile) {f : FontFound} (p : f ≡ entryNumbered (e .state .font) (take (t .count) (t .fonts))) where
-  pub gauge-entry : {g : Gauged} (x : FontEntry) → f ≡ EntryIs x → GaugedIn msg e (some (fontAt file x)) g → AcceptedTable file t
+  pub gauge-entry : {g : Gauged} (x : FontEntry) → f ≡ EntryIs x → GaugedIn msg e (t .config .capitals) (some (fontAt file x)) g → AcceptedTable file t
       → ((i : ℕ) → Val.Fits w8 (getD file i 0)) → GaugedBy file msg e g
   gauge-entry {g} x d q o fits =
       let b : Bytes file = λ i. omega (arith, fits i) in
-      gauge-found file msg e (some (fontAt file x)) g (entry-font file t b o (e .state .font) f p x d) q
+      gauge-found file msg e (t .config .capitals) (some (fontAt file x)) g (ap capitalsIn ((accepts file t (o .0) b (o .1)) .is))
+      (entry-font file t b o (e .state .font) f p x d) q
 
-  pub gauge-absent : {g : Gauge} → f ≡ NoEntry → g ≡ gaugeFor [] e none → AcceptedTable file t → ((i : ℕ) → Val.Fits w8 (getD file i 0))
+  pub gauge-absent : {g : Gauge} → f ≡ NoEntry → g ≡ gaugeFor [] e false none → AcceptedTable file t → ((i : ℕ) → Val.Fits w8 (getD file i 0))
       → GaugedBy file msg e (record { gauge = g; looked = 0 })
   gauge-absent d q o fits =
       let b : Bytes file = λ i. omega (arith, fits i) in
-      gauge-found file msg e none _ (entry-none file t b o (e .state .font) f p d) (record { is = q ∙ sym (gauge-none msg e); looked = refl })
+      gauge-found file msg e (capitalsIn (signFile file)) none _ refl (entry-none file t b o (e .state .font) f p d)
+      (record { is = q ∙ sym (gauge-none msg e (capitalsIn (signFile file))); looked = refl })
 
 -- ---- the row
 
@@ -294,6 +302,6 @@ pub row-fields : (e : Entry) (g : Gauge) (jp jl f x d w : ℕ) → jp ≡ e .sta
 row-fields e g jp jl f x d w a b c j k m = rw (a, b, c, j, k, m)
 
 pub none-fields : (e : Entry) (s d : ℕ) → s ≡ unwrapOr (e .state .«char_spacing») 0 → d ≡ e .state .font
-    → record { spacing = s; height = 0; «font_spacing» = 0; width = 0; fault = 10; detail = d } ≡ gaugeFor [] e none
+    → record { spacing = s; height = 0; «font_spacing» = 0; width = 0; fault = 10; detail = d } ≡ gaugeFor [] e false none
 unfolding gaugeFor
 none-fields e s d a b = rw (a, b)

@@ -3,6 +3,7 @@ use Prim.Native.Nat.{ℕ, _+_, _≤_, _<_}
 use mathlib.Core.Path.{_≡_}
 use mathlib.Core.Option.{Option}
 use mathlib.Core.List.{List, [], _∷_}
+use mathlib.Core.Bool.{Bool}
 use lib.Dec.{eqb}
 use lib.ListN.{length, take, drop}
 use Rattle.base.specs.Pick.{pick}
@@ -15,7 +16,7 @@ use Rattle.sign.specs.declared.FontEntry.{FontEntry}
 use Rattle.sign.specs.declared.SignFile.{SignFile}
 use Rattle.sign.specs.declared.Outcome.the-variants.{Accepted}
 use Rattle.font.specs.declared.FontFound.the-variants.{Entry as EntryIs}
-use Rattle.font.specs.Character.{charactersAt}
+use Rattle.font.specs.Character.{charactersAt, lettersAt}
 use Rattle.font.specs.Table.{fontNumbered, entryNumbered}
 use Rattle.font.specs.Widths.{Widths}
 use Rattle.font.specs.Measure.{measureOf}
@@ -25,7 +26,7 @@ use Rattle.font.specs.declared.Looked.{Looked}
 use Rattle.layout.specs.declared.Entry.{Entry}
 use Rattle.layout.specs.Types.{Meter}
 use Rattle.layout.specs.Fonts.{charsOf, faultIn, spacingIn, widthIn, heightIn, lineSpacingIn, meterOf}
-use Rattle.counts.specs.Placing.{lookedIn, fontsIn}
+use Rattle.counts.specs.Placing.{fontsIn, capitalsIn, lookedIn}
 use Rattle.rows.specs.Measured.{faultNumber, faultDetail, gaugeOf, rowOf}
 use Rattle.rows.specs.declared.Fault.{Fault}
 use Rattle.rows.specs.declared.Gauge.{Gauge}
@@ -33,7 +34,7 @@ use Rattle.meter.specs.declared.Gauged.{Gauged}
 use Rattle.meter.specs.declared.RowLooked.{RowLooked}
 
 unfoldable pub meterIn : List ℕ → List ℕ → Meter
-meterIn file msg = meterOf msg (fontsIn (signFile file))
+meterIn file msg = meterOf msg (capitalsIn (signFile file)) (fontsIn (signFile file))
 
 -- the table was read from the file, which is accepted
 abbrev pub AcceptedTable : List ℕ → SignFile → Type 0
@@ -41,7 +42,8 @@ AcceptedTable file t = (t ≡ tableOf (signFile file)) × (t .outcome ≡ Accept
 
 -- widths holds those of the font with a number, if the table has one
 abbrev pub WidthsOf : List ℕ → SignFile → ℕ → List ℕ → Type 0
-WidthsOf file t font widths = (f : FontEntry) → entryNumbered font (take (t .count) (t .fonts)) ≡ EntryIs f → Widths (charactersAt file f) widths
+WidthsOf file t font widths = (f : FontEntry) → entryNumbered font (take (t .count) (t .fonts)) ≡ EntryIs f
+    → Widths (lettersAt file f (t .config .capitals)) widths
 
 -- code points that fit in 16 bits, as a refusal's detail has
 abbrev pub CodesFit : List ℕ → Type 0
@@ -97,25 +99,25 @@ abbrev pub faultBy : ℕ → Measure → Fault
 faultBy version m = pick (eqb version 0) (missingBy m) (fault version 0)
 
 -- what is said of a span in its font, if that is defined
-unfoldable pub gaugeFor : List ℕ → Entry → Option Font → Gauge
-gaugeFor msg e o =
+unfoldable pub gaugeFor : List ℕ → Entry → Bool → Option Font → Gauge
+gaugeFor msg e capitals o =
     record {
       spacing = spacingIn msg e o;
       height = heightIn o;
       «font_spacing» = lineSpacingIn o;
-      width = widthIn msg e o;
-      fault = faultNumber (faultIn msg e o);
-      detail = faultDetail (faultIn msg e o);
+      width = widthIn msg e capitals o;
+      fault = faultNumber (faultIn msg e capitals o);
+      detail = faultDetail (faultIn msg e capitals o);
     }
 
 -- the same, and how many characters its measure looked up
-pub record GaugedIn (msg : List ℕ) (e : Entry) (o : Option Font) (r : Gauged) : Type 0 where
-  pub is : r .gauge ≡ gaugeFor msg e o
-  pub looked : r .looked ≡ lookedIn (charsOf msg e) o
+pub record GaugedIn (msg : List ℕ) (e : Entry) (capitals : Bool) (o : Option Font) (r : Gauged) : Type 0 where
+  pub is : r .gauge ≡ gaugeFor msg e capitals o
+  pub looked : r .looked ≡ lookedIn capitals (charsOf msg e) o
 
 -- how many characters the measure of a span looks up, in the fonts of a sign file
 abbrev pub lookedBy : List ℕ → List ℕ → Entry → ℕ
-lookedBy file msg e = lookedIn (charsOf msg e) (fontNumbered (e .state .font) (fontsIn (signFile file)))
+lookedBy file msg e = lookedIn (capitalsIn (signFile file)) (charsOf msg e) (fontNumbered (e .state .font) (fontsIn (signFile file)))
 
 -- what the fonts of a sign file say of a span
 pub record GaugedBy (file msg : List ℕ) (e : Entry) (r : Gauged) : Type 0 where

@@ -1,8 +1,9 @@
 // What the fonts of a sign file say of a span: taken once for each, and kept with it in its row.
 ghost use mathlib.Core.Path.{_≡_};
 ghost use mathlib.Core.List.{_∷_, []};
+ghost use mathlib.Core.Bool.{false};
 ghost use mathlib.Core.Option.{none, some};
-ghost use Rattle.font.specs.Character.{charactersAt};
+ghost use Rattle.font.specs.Character.{lettersAt};
 ghost use Rattle.font.specs.Widths.{Widths};
 ghost use Rattle.layout.specs.Fonts.{charsOf, widthOf};
 ghost use Rattle.rows.specs.Measured.{flag as flagOf, rowBy};
@@ -28,49 +29,58 @@ fn flag(o: OptNum) -> u16
 }
 
 // The width of a character alone.
-fn hex_width(file: &[u8], f: FontEntry, widths: &[u16], code: u16, spacing: u16) -> Looked
-    requires { ⌜ Widths (charactersAt (now file) f) (now widths) ⌝ }
-    ensures { λ r. ⌜ WidthFound (charactersAt (now (file .entry)) f) spacing (code ∷ []) r ⌝ }
+fn hex_width(
+    file: &[u8],
+    f: FontEntry,
+    capitals: bool,
+    widths: &[u16],
+    code: u16,
+    spacing: u16,
+) -> Looked
+    requires { ⌜ Widths (lettersAt (now file) f capitals) (now widths) ⌝ }
+    ensures { λ r. ⌜ WidthFound (lettersAt (now (file .entry)) f capitals) spacing (code ∷ []) r ⌝ }
 {
-    font::with_character(file, f, widths, 0, 0, code as u32, spacing)
+    font::with_character(file, f, capitals, widths, 0, 0, code as u32, spacing)
 }
 
 // The width of a text of the message.
 fn part_width(
     file: &[u8],
     f: FontEntry,
+    capitals: bool,
     widths: &[u16],
     msg: &[u8],
     e: Entry,
     spacing: u16,
 ) -> Looked
-    requires { ⌜ Widths (charactersAt (now file) f) (now widths) ⌝ }
+    requires { ⌜ Widths (lettersAt (now file) f capitals) (now widths) ⌝ }
     requires { ⌜ EntryIn (now msg) e × (e .kind ≡ 0) ⌝ }
-    ensures { λ r. ⌜ WidthFound (charactersAt (now (file .entry)) f) spacing (partCodes (now (msg .entry)) e) r ⌝ }
+    ensures { λ r. ⌜ WidthFound (lettersAt (now (file .entry)) f capitals) spacing (partCodes (now (msg .entry)) e) r ⌝ }
 {
     let start = e.start as usize;
     let end = start + e.len as usize;
-    font::text_width(file, f, widths, &msg[start..end], spacing)
+    font::text_width(file, f, capitals, widths, &msg[start..end], spacing)
 }
 
 // The width of what a span prints.
 fn span_width(
     file: &[u8],
     f: FontEntry,
+    capitals: bool,
     widths: &[u16],
     msg: &[u8],
     e: Entry,
     spacing: u16,
 ) -> Looked
-    requires { ⌜ Widths (charactersAt (now file) f) (now widths) ⌝ }
+    requires { ⌜ Widths (lettersAt (now file) f capitals) (now widths) ⌝ }
     requires { ⌜ EntryIn (now msg) e ⌝ }
-    ensures { λ r. ⌜ WidthFound (charactersAt (now (file .entry)) f) spacing (charsOf (now (msg .entry)) e) r ⌝ }
+    ensures { λ r. ⌜ WidthFound (lettersAt (now (file .entry)) f capitals) spacing (charsOf (now (msg .entry)) e) r ⌝ }
 {
     if e.kind == 0 {
-        return part_width(file, f, widths, msg, e, spacing);
+        return part_width(file, f, capitals, widths, msg, e, spacing);
     }
     if e.kind == 1 {
-        return hex_width(file, f, widths, e.code, spacing);
+        return hex_width(file, f, capitals, widths, e.code, spacing);
     }
     Looked {
         measure: Measure::Width(0),
@@ -132,16 +142,23 @@ pub struct Gauged {
 }
 
 // A span in a font.
-fn gauge_in(file: &[u8], f: FontEntry, widths: &[u16], msg: &[u8], e: Entry) -> Gauged
-    requires { ⌜ Widths (charactersAt (now file) f) (now widths) ⌝ }
+fn gauge_in(
+    file: &[u8],
+    f: FontEntry,
+    capitals: bool,
+    widths: &[u16],
+    msg: &[u8],
+    e: Entry,
+) -> Gauged
+    requires { ⌜ Widths (lettersAt (now file) f capitals) (now widths) ⌝ }
     requires { ⌜ EntryIn (now msg) e ⌝ }
-    ensures { λ r. ⌜ GaugedIn (now (msg .entry)) e (some (fontAt (now (file .entry)) f)) r ⌝ }
+    ensures { λ r. ⌜ GaugedIn (now (msg .entry)) e capitals (some (fontAt (now (file .entry)) f)) r ⌝ }
 {
     let st = e.state;
     let char_spacing = st.char_spacing;
     let version = st.version;
     let spacing = layout::unwrap_or(char_spacing, base::wide16(f.char_spacing));
-    let looked = span_width(file, f, widths, msg, e, spacing);
+    let looked = span_width(file, f, capitals, widths, msg, e, spacing);
     let m = looked.measure;
     let fault = fault_by(version_number(version, f.version_id), m);
     let gauge = Gauge {
@@ -160,7 +177,7 @@ fn gauge_in(file: &[u8], f: FontEntry, widths: &[u16], msg: &[u8], e: Entry) -> 
 
 // A span whose font is not defined.
 fn no_font(e: Entry) -> Gauge
-    ensures { λ r. ⌜ r ≡ gaugeFor [] e none ⌝ }
+    ensures { λ r. ⌜ r ≡ gaugeFor [] e false none ⌝ }
 {
     let st = e.state;
     let char_spacing = st.char_spacing;
@@ -182,7 +199,7 @@ pub fn widths_of(file: &[u8], table: SignFile, font: u8) -> [u16; 256]
     let FontFound::Entry(f) = font::font_numbered(table, font) else {
         return widths;
     };
-    font::widths(file, f, &mut widths);
+    font::widths(file, f, table.config.capitals, &mut widths);
     widths
 }
 
@@ -194,7 +211,7 @@ fn gauge_of(file: &[u8], table: SignFile, widths: &[u16], msg: &[u8], e: Entry) 
 {
     let st = e.state;
     match font::font_numbered(table, st.font) {
-        FontFound::Entry(f) => gauge_in(file, f, widths, msg, e),
+        FontFound::Entry(f) => gauge_in(file, f, table.config.capitals, widths, msg, e),
         FontFound::Absent => {
             let gauge = no_font(e);
             Gauged { gauge, looked: 0 }

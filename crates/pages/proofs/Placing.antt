@@ -10,10 +10,10 @@ use mir.Val as Val
 use mir.Syntax.{w8, w64}
 use Rattle.refusal.specs.declared.Refusal.{Refusal}
 use Rattle.records.specs.declared.Config.{Config}
-use Rattle.sign.specs.Sign.{Font, signFile}
+use Rattle.sign.specs.Sign.{Sign, signFile}
 use Rattle.sign.specs.declared.SignFile.{SignFile}
 use Rattle.font.specs.Table.{fontNumbered}
-use Rattle.counts.specs.Placing.{charsIn, lookedIn, charsLooked, fontsIn}
+use Rattle.counts.specs.Placing.{charsIn, fontsIn, capitalsIn, lookedIn, charsLooked}
 use Rattle.counts.proofs.Laws.{sum-append, looked-pass}
 use Rattle.sign.proofs.Answer.{Accepts, accepts}
 use Rattle.layout.specs.declared.RenderState.{RenderState}
@@ -47,8 +47,8 @@ module _ {file : List ℕ} {table : SignFile} {msg : List ℕ} {from : ℕ} {st 
   abbrev es : List Entry
   es = entriesOf c (itemsFrom from msg) st true
 
-  abbrev fs : List Font
-  fs = fontsIn (signFile file)
+  abbrev sign : Sign
+  sign = signFile file
 
   abbrev end : Ending
   end = endingOf c (itemsFrom from msg) st true
@@ -114,10 +114,10 @@ module _ {file : List ℕ} {table : SignFile} {msg : List ℕ} {from : ℕ} {st 
             arith,
             asked .looked,
             spans .looked,
-            looked-pass fs msg s (d .rect) es,
-            sum-append (λ q. lookedIn (charsIn msg q) (fontNumbered (q .font) fs)) (spansOf out at) (passRecords s (d .rect) es),
+            looked-pass sign msg s (d .rect) es,
+            sum-append (λ q. lookedIn (capitalsIn sign) (charsIn msg q) (fontNumbered (q .font) (fontsIn sign))) (spansOf out at) (passRecords s (d .rect) es),
           )
-          ∙ ap (charsLooked fs msg) (sym (written e))
+          ∙ ap (charsLooked sign msg) (sym (written e))
 
       pub render-done : {v : PassEnd} → o ≡ None → v ≡ EndedPass (doneBy (d .how) (d .at) (at + d .count) (k + d .looked) (d .rect) (d .state))
           → Rendered out′ v

@@ -25,7 +25,7 @@ use Rattle.page.specs.declared.PageState.the-variants.{On as OnState, Off as Of
 use Rattle.page.specs.State.{newPage as newState, doneAfter, nextState}
 use Rattle.page.specs.Scan.{itemsFrom}
 use Rattle.rows.specs.Rows.{RowRoom, SpanRoom, spansOf}
-use Rattle.counts.specs.Placing.{charsLooked, fontsIn}
+use Rattle.counts.specs.Placing.{charsLooked}
 use Rattle.meter.specs.Gauges.{AcceptedTable, meterIn}
 use Rattle.pass.specs.declared.PassDone.{PassDone}
 use Rattle.pass.specs.declared.PassEnd.{PassEnd}
@@ -52,7 +52,7 @@ pub record Ready (file : List ℕ) (table : SignFile) (msg rows out : List ℕ) 
 
 -- how many characters were looked up for the first n records of out, in the fonts of a sign file
 abbrev pub lookedFor : List ℕ → List ℕ → List ℕ → ℕ → ℕ
-lookedFor file msg out n = charsLooked (fontsIn (signFile file)) msg (spansOf out n)
+lookedFor file msg out n = charsLooked (signFile file) msg (spansOf out n)
 
 -- what is to be read and placed from a place on, with n records of its page before it, for which k characters were looked up
 pub record RenderAsked (file : List ℕ) (table : SignFile) (msg rows out : List ℕ) (from : ℕ) (st : RenderState) (n k : ℕ) : Type 0 where

@@ -39,7 +39,7 @@ use Rattle.sign.specs.Sign.{signFile}
 use Rattle.sign.specs.declared.SignFile.{SignFile}
 use Rattle.sign.proofs.Answer.{Accepts, accepts}
 use Rattle.font.specs.Table.{fontNumbered}
-use Rattle.counts.specs.Placing.{sumOf, fontsIn}
+use Rattle.counts.specs.Placing.{sumOf, fontsIn, capitalsIn}
 use Rattle.counts.proofs.Laws.{looked-few}
 use Rattle.meter.specs.declared.RowLooked.{RowLooked}
 use Rattle.meter.specs.Gauges.{AcceptedTable, WidthsOf, CodesFit, meterIn, partCodes, EntryIn, lookedBy, RowTaken}
@@ -281,7 +281,7 @@ module _ {file : List ℕ} {table : SignFile} {msg : List ℕ} {from : ℕ} {fir
       looked-here : {widths′ rows′ : List ℕ} {y : Kept} → Stored file table msg x rows n widths′ rows′ y → y .looked ≤ r - at
       looked-here w =
           rw (w .looked)
-          (looked-few msg x (fontNumbered (x .state .font) (fontsIn (signFile file))) (r - at) shorter (omega (arith, more)))
+          (looked-few msg x (capitalsIn (signFile file)) (fontNumbered (x .state .font) (fontsIn (signFile file))) (r - at) shorter (omega (arith, more)))
 
       pub pass-adds : {widths′ rows′ : List ℕ} {y : Kept} → Stored file table msg x rows n widths′ rows′ y → Val.Fits w64 (looked + y .looked)
       pass-adds w = omega (arith, looked-here w, z .few, more, past, z .asked .small)

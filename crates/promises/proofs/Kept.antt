@@ -2,6 +2,7 @@
 use Rattle.token.proofs.Laws.{slices-joined}
 use Rattle.font.proofs.Counts.{counts}
 use Rattle.admit.specs.Admission.{denied}
+use Rattle.font.proofs.StandIns.{stands-in}
 use Rattle.layout.specs.Boards.{boards}
 use Rattle.layout.proofs.Checks.{answer-on}
 use Rattle.layout.proofs.Calls.{demand3}
@@ -25,4 +26,5 @@ promises =
       words = worded;
       looked-up = counts;
       page-counted = page-counts;
+      capitals = stands-in;
     }

@@ -10,6 +10,7 @@ use Rattle.refusal.specs.declared.Refusal.{Refusal}
 use Rattle.sign.specs.Sign.{Character}
 use Rattle.font.specs.Counts.{Counts}
 use Rattle.admit.specs.Admission.{denied, admission}
+use Rattle.font.specs.Character.{StandsIn}
 use Rattle.layout.specs.declared.Span.{Span}
 use Rattle.layout.specs.declared.Answer.the-variants.{Refused}
 use Rattle.layout.specs.Listing.{listing, after}
@@ -53,3 +54,5 @@ pub record Promises : Type 0 where
   -- placed, equal to its records"; where the page is refused "both counts are 0", and for off and end. By its contract `place` (crates/listing/src/lib.rt)
   -- answers `placing` and leaves `after`
   pub page-counted : (file msg : List ℕ) (n : ℕ) (lent : List Span) → PageCounts file msg n lent
+  -- A4, of the characters of every font, where the file has the option: a missing a to z is "looked up as its capital", and nothing else is changed
+  pub capitals : (chs : List Character) → StandsIn chs

@@ -3,16 +3,16 @@ use Prim.Native.Nat.{_-_}
 use native.Mathlib.Omega.{arith}
 use lib.ListN.{length}
 use Rattle.utf8.proofs.Laws.{code-len}
-use Rattle.font.specs.Character.{charactersAt}
+use Rattle.font.specs.Character.{lettersAt}
 use Rattle.font.proofs.Texts.{Measuring, width-ways}
 use Rattle.font.proofs.short_width.Statement.{statement}
 use Rattle.font.proofs.short_width.Tie as tie
 
 abbrev Inv-loop : tie.InvT-loop
-Inv-loop file entry table text spacing w₀ n₀ at₀ w n at = Measuring (charactersAt file entry) spacing text w n at
+Inv-loop file entry capitals table text spacing w₀ n₀ at₀ w n at = Measuring (lettersAt file entry capitals) spacing text w n at
 
 abbrev μ-loop : tie.MeasureT-loop
-μ-loop file entry table text spacing w₀ n₀ at₀ w n at = length text - at
+μ-loop file entry capitals table text spacing w₀ n₀ at₀ w n at = length text - at
 
 pub short-width-spec : {M : Type 1} → statement M
 short-width-spec =

@@ -1,35 +1,17 @@
 use borrow.Author.Needs.{needs}
-use Prim.Native.Nat.{_-_}
-use lib.ListN.{length-set}
-use Rattle.font.proofs.Filled.{Filling, filled-ways}
+use Rattle.font.proofs.StandIns.{widths-own, widths-stand}
 use Rattle.font.proofs.widths.Statement.{statement}
 use Rattle.font.proofs.widths.Tie as tie
-
-abbrev Inv-loop : tie.InvT-loop
-Inv-loop file table₀ count n₀ at₀ table n at = Filling file at₀ count table₀ at n table
-
-abbrev μ-loop : tie.MeasureT-loop
-μ-loop file table₀ count n₀ at₀ table n at = count - n
-
--- the loop's test is reached
-abbrev Looped : Type 0
-Looped = tie.At-loop Inv-loop μ-loop
 
 pub widths-spec : {M : Type 1} → statement M
 widths-spec =
     tie.close (tie.spec
-    Inv-loop
-    μ-loop
-    (λ c. search needs)  -- slice-write-table
-    (λ c. search (filled-ways, needs) depth 6)  -- loop-holds
-    (λ c κs. search needs)  -- next-character-requires
-    (λ c. search needs)  -- enum-known-ch
-    (λ c. search needs)  -- enum-told
-    (λ c. let l : Looped = search in simp length-set at (l .loop .inv .same))  -- same-length
-    (λ c. search (filled-ways, needs) depth 6)  -- returns
-    (λ c κs. search needs)  -- note-requires
-    (λ c. search needs)  -- add-n
-    (λ c. search needs)  -- loop-less
-    (λ c. search (filled-ways, needs) depth 6)  -- loop-again
-    (λ c. let l : Looped = search in simp length-set at (l .loop .inv .same))  -- same-length-2
-    (λ c. search (filled-ways, needs) depth 6))  -- returns-2
+    (λ c κs. search needs)  -- own-widths-requires
+    (λ c. search needs)  -- same-length
+    (λ c. search (widths-own, needs) depth 6)  -- returns
+    (λ c κs. search needs)  -- stand-ins-requires
+    (λ c. search needs)  -- same-length-2
+    (λ c.
+    let o : tie.After-own-widths = search in
+    let t : tie.After-stand-ins = search in
+    widths-stand _ _ _ _ _ (o .own-widths .ensures) (search) (t .stand-ins .ensures)))  -- returns-2

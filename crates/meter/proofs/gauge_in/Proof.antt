@@ -23,6 +23,6 @@ gauge-in-spec =
     let x : tie.After-fault-by = search in
     let h : tie.After-wide162 = search in
     let l : tie.After-wide163 = search in
-    gauge-is (a .args .file .now) (a .args .msg .now) (a .args .e) (a .args .f) (d .wide16 .ensures .0) (s .unwrap-or .ensures)
+    gauge-is (a .args .file .now) (a .args .msg .now) (a .args .e) (a .args .f) (a .args .capitals) (d .wide16 .ensures .0) (s .unwrap-or .ensures)
     (m .span-width .ensures) (n .version-number .ensures) (x .fault-by .ensures) (h .wide162 .ensures .0) (l .wide163 .ensures .0)
     (c .width-of .ensures)))  -- returns
