@@ -1,8 +1,8 @@
-"""An executable reading of document 01: message bytes in, placed text out.
+"""An executable reading of documents 01 and 02: message bytes in, placed text out.
 
 Written from the words of document 01; the sentence that a rule comes from stands in quotes beside it. Where document
 01 says "as in the Rust", or names a function of it, the rule of that function is taken. Whole numbers throughout:
-"Sums are whole numbers (the Rust stops where 16 bits overflow)."
+"Sums are whole numbers (the Rust stops where 16 bits overflow)." A rule of document 02 names its request, as A4.
 
 The parts follow the document: number readers, slices, values, sign file, measure, pages, passes, placing, listing.
 """
@@ -425,7 +425,13 @@ def check_message(message):
 
 Font = namedtuple("Font", "number height char_spacing line_spacing version characters")  # characters: code to width
 Character = namedtuple("Character", "number width bitmap")
-Sign = namedtuple("Sign", "width height char_width char_height font just_line just_page on off tags fonts entries")
+# options: the kinds of its option records; stand_ins: the letters for which a capital has stood in since the file was read
+Sign = namedtuple("Sign", "width height char_width char_height font just_line just_page on off tags fonts entries"
+                          " options stand_ins")
+
+# A4: "an empty record of kind 4, directly after kind 1"
+CAPITALS = 4
+OPTIONS = (CAPITALS,)  # in the order that they have in a file
 
 # "where only fo, hc, jl, jp, nl, np, pt, sc and tr may be set"
 ALLOWED_TAGS = sum(1 << BITS[name] for name in ("fo", "hc", "jl", "jp", "nl", "np", "pt", "sc", "tr"))
@@ -443,8 +449,10 @@ def read_sign_file(data):
     if not data:
         raise Refusal(1)  # "or empty"
     configuration = None
+    options = []
     entries = []
     numbers = set()  # of fonts
+    before = None  # the kind of the record before
     offset = 0
     while offset < len(data):
         # "otherwise the offset of the first record that fails, one cut short included"
@@ -488,11 +496,17 @@ def read_sign_file(data):
                 raise failed
             owner.characters[number] = width
             characters.append(Character(number, width, bytes(bitmap)))
+        elif kind in OPTIONS:
+            # directly after kind 1 or after an option that comes before it in their order; and empty
+            if size or before not in (1,) + OPTIONS[:OPTIONS.index(kind)]:
+                raise failed
+            options.append(kind)
         else:
             raise failed  # "no other kind"
+        before = kind
         offset += 4 + size
     fonts = {entry.number: entry for entry, _ in entries}
-    return Sign(*configuration, fonts=fonts, entries=entries)
+    return Sign(*configuration, fonts=fonts, entries=entries, options=options, stand_ins=set())
 
 
 def read_configuration(body):
@@ -561,12 +575,25 @@ def spacing_of(span, font):
     return font.char_spacing if span.char_spacing is None else span.char_spacing
 
 
-def text_width(font, codes, spacing):
+def found(sign, font, code):
+    """The code of the font's entry that a code is looked up as. One without an entry raises KeyError."""
+    if code in font.characters:
+        return code
+    # A4: the record "lets a missing a to z be looked up as its capital"
+    if CAPITALS in sign.options and ord("a") <= code <= ord("z"):
+        capital = code - ord("a") + ord("A")
+        if capital in font.characters:
+            sign.stand_ins.add(code)
+            return capital
+    raise KeyError(code)  # A4: "A letter with neither form still gives 12 with the code typed."
+
+
+def text_width(sign, font, codes, spacing):
     """`text_width`. A code without an entry raises KeyError."""
     width = 0
     for code in codes:
         # "code 0, which no file can define, counts as a character of width 0 without lamps"
-        character = 0 if code == 0 else font.characters[code]
+        character = 0 if code == 0 else font.characters[found(sign, font, code)]
         if width > 0:
             width += spacing  # "Spacing is added before a character only if the width so far is above 0."
         width += character
@@ -792,7 +819,7 @@ class Pass:
         """A span's width is the measure of its text, 0 for an empty one."""
         font = self.font(span)
         try:
-            return text_width(font, span.codes, spacing_of(span, font))
+            return text_width(self.sign, font, span.codes, spacing_of(span, font))
         except KeyError as missing:
             raise Refusal(12, detail=missing.args[0])  # "Character not defined; detail its code."
 
@@ -930,9 +957,26 @@ End = namedtuple("End", "count")
 
 def listing(sign_file, message):
     """The answers from 0 on, up to and with the first that is an end or a refusal."""
+    try:
+        return listing_on(read_sign_file(sign_file), message)  # 1
+    except Refusal as refusal:
+        return [refusal]
+
+
+def stand_ins(sign_file, message):
+    """The letters for which a capital stands in where the listing is made (A4); 'files with it compare with the Rust
+    where no capital stands in'."""
+    try:
+        sign = read_sign_file(sign_file)
+    except Refusal:
+        return set()
+    listing_on(sign, message)
+    return sign.stand_ins
+
+
+def listing_on(sign, message):
     answers = []
     try:
-        sign = read_sign_file(sign_file)  # 1
         check_message(message)            # 2, 3; 4 is of the lent slice, which these streams have not
         state = State(sign)
         times = (sign.on, sign.off)

@@ -3,7 +3,7 @@
 import unittest
 
 from counts import counts
-from test_model import BOARD_P
+from test_model import BOARD_P, configuration, font, record
 
 
 class Counts(unittest.TestCase):
@@ -26,6 +26,10 @@ class Counts(unittest.TestCase):
         self.assertEqual(self.counted("AC"), [(0, 0)])
         self.assertEqual(self.counted("AB[np][tr1,1,12,7]AB"), [(2, 1), (0, 0)])
         self.assertEqual(self.counted("AB[tr1,1,12,7]AB"), [(0, 0)])
+
+    def test_stand_ins(self):
+        # A4: a letter for which a capital stands in is one
+        self.assertEqual(counts(configuration() + record(4, b"") + font(), b"aB[hc62]"), [(3, 2), (0, 0)])
 
 
 if __name__ == "__main__":

@@ -1,4 +1,5 @@
-"""Tests of the model: the worked boards of document 01 with its numbers, and the boundaries of its rules."""
+"""Tests of the model: the worked boards of document 01 with its numbers, the requests of document 02, and the boundaries of their
+rules."""
 
 import io
 import unittest
@@ -464,6 +465,62 @@ class Placing(unittest.TestCase):
         self.assertEqual(ys("A[nl9][tr1,1,0,0]A[nl]A"), [0, 0, 10])
 
 
+class Capitals(unittest.TestCase):
+    """Request A4 of document 02."""
+
+    def setUp(self):
+        self.board = configuration() + record(4, b"") + font()
+
+    def test_worked(self):
+        for message in ("ab", "aB", "Ab"):
+            self.assertEqual(run(message, self.board), run("AB"))
+        self.assertEqual(run("A[nl]aba", self.board), run("A[nl]ABA"))
+        shown = records("[hc61]", self.board)[0]
+        self.assertEqual((shown.kind, shown.start, shown.length, shown.code, shown.width), (1, 0, 6, 97, 5))
+        self.assertEqual(last("c", self.board), ("refused", 12, 0, 1, 99))
+        self.assertEqual(last("C", self.board), ("refused", 12, 0, 1, 67))
+        self.assertEqual(last("ab"), ("refused", 12, 0, 2, 97))
+        both = configuration() + record(4, b"") + font(characters=((65, 5), (97, 3)))
+        self.assertEqual([r.width for r in records("aA", both)], [3 + 2 + 5])
+
+    def test_letters(self):
+        """a to z alone, and no capital as its small letter."""
+        every = configuration(width=4096) + record(4, b"") + font(characters=[(code, 1 + code % 7) for code in range(65, 91)])
+        for code in range(97, 123):
+            shown = records(chr(code), every)[0]
+            self.assertEqual(shown.width, 1 + (code - 32) % 7)
+        for code in (64, 91, 96, 123, 0xE0, 0xFE):
+            self.assertEqual(last("[hc%x]" % code, every)[1:3], (12, 0))
+            self.assertEqual(last("[hc%x]" % code, every)[4], code)
+        small = configuration() + record(4, b"") + font(characters=[(97, 3), (0xC9, 5), (64, 1), (91, 1)])
+        self.assertEqual(last("A", small), ("refused", 12, 0, 1, 65))
+        self.assertEqual(last("\u00e9", small), ("refused", 12, 0, 2, 0xE9))
+        self.assertEqual(last("`", small), ("refused", 12, 0, 1, 96))
+        self.assertEqual(last("{", small), ("refused", 12, 0, 1, 123))
+
+    def test_font_at_hand(self):
+        """The look-up is in the span's own font; a capital of width 0 counts as one."""
+        sign = configuration() + record(4, b"") + font() + font(2, 7, 1, 3, [(97, 4), (66, 0)])
+        self.assertEqual([r.width for r in records("a[fo2]a[fo1]a", sign)], [5, 4, 5])
+        self.assertEqual([r.width for r in records("[fo2]ba", sign)], [4])
+        self.assertEqual(last("a[fo2]A", sign), ("refused", 12, 0, 1, 65))
+        self.assertEqual(last("a[nl][fo2]c", sign), ("refused", 12, 10, 1, 99))
+
+    def test_fit(self):
+        self.assertEqual(last("[tr1,1,13,7]ab", self.board), ("end", 1))
+        self.assertEqual(last("[tr1,1,12,7]ab", self.board), ("refused", 13, 12, 2, 0))
+        self.assertEqual(xs("[jl4]a[sc4]b", self.board), [35, 44])
+
+    def test_told(self):
+        self.assertEqual(model.stand_ins(self.board, b"aAb"), {97, 98})
+        self.assertEqual(model.stand_ins(self.board, b"AB"), set())
+        self.assertEqual(model.stand_ins(self.board, b"]a"), set())
+        self.assertEqual(model.stand_ins(self.board, b"ca"), set())
+        self.assertEqual(model.stand_ins(self.board, b"a" * 2049), set())
+        self.assertEqual(model.stand_ins(BOARD_P, b"ab"), set())
+        self.assertEqual(model.stand_ins(b"", b"ab"), set())
+
+
 class SignFiles(unittest.TestCase):
     def refused(self, data, start):
         with self.assertRaises(model.Refusal) as caught:
@@ -500,8 +557,34 @@ class SignFiles(unittest.TestCase):
         self.refused(record(1, configuration()[4:] + b"\0"), 0)
         self.refused(font() + configuration(), 0)
         self.refused(configuration() + configuration(), 19)
-        for kind in (0, 4, 5, 6, 256, 257, 65535):
+        for kind in (0, 5, 6, 7, 256, 257, 260, 65535):
             self.refused(configuration() + record(kind, b""), 19)
+
+    def test_options(self):
+        """An empty record of an option kind stands directly after kind 1, in the order of the kinds; else 1 at its offset."""
+        first, rest = configuration(), font()
+        for kind in model.OPTIONS:
+            option = record(kind, b"")
+            self.assertEqual(model.read_sign_file(first + option + rest).options, [kind])
+            self.assertEqual(model.read_sign_file(first + option).options, [kind])
+            # anywhere else, behind each of the other records, or before them all
+            self.refused(option + first + rest, 0)
+            for place in (29, 41, 54, 64):
+                self.refused((first + rest)[:place] + option + (first + rest)[place:], place)
+            # twice
+            self.refused(first + option + option + rest, 23)
+            self.refused(first + option + rest + option, 68)
+            # with a body, which may be cut off
+            for body in (b"\0", bytes(4), bytes(15)):
+                self.refused(first + record(kind, body) + rest, 19)
+                self.refused(first + option + record(kind, body) + rest, 23)
+            self.refused(first + record(kind, b"\0")[:-1], 19)
+            for length in (1, 2, 3):
+                self.refused(first + option[:length], 19)
+            # what breaks a rule behind it has its own offset
+            self.refused(first + option + first, 23)
+            self.refused(first + option + record(3, b"A\0\0"), 23)
+            self.refused(first + option + rest + b"\0", 68)
 
     def test_fonts(self):
         self.refused(configuration() + record(2, [0, 7, 2, 3, 0, 0]), 19)
