@@ -1,6 +1,6 @@
 //! The oracle: the carried Rust, unchanged, asked for what `tests/FORMAT.md`
-//! compares. Sign files are read here, by document 01; everything after the
-//! refusals 1 to 3 is decided by the Rust.
+//! compares. Sign files are read here, by documents 01 and 02; everything after
+//! the refusals 1 to 3 is decided by the Rust, which has no options.
 
 include!(concat!(env!("OUT_DIR"), "/carried.rs"));
 
@@ -13,7 +13,7 @@ mod values;
 
 pub use answer::{Answer, Item, Record, Refusal};
 pub use number::{decimal, hexadecimal, version_id};
-pub use sign::{Sign, with_version_ids};
+pub use sign::{CAPITALS, Sign, with_version_ids};
 pub use stream::{StreamError, answer_stream};
 pub use values::{next_slices, run_values, values};
 

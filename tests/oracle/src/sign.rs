@@ -1,4 +1,5 @@
-//! Reading a sign file into the real sign, by document 01.
+//! Reading a sign file into the real sign, by document 01. The option records
+//! of document 02 are read and left out: the Rust has no such options.
 
 use crate::answer::{Answer, Refusal};
 use crate::dms::config::{MultiCfg, SignCfg, VmsCfg};
@@ -17,6 +18,10 @@ const FILE_MAX: usize = 65_535;
 const PIXELS_MAX: u16 = 4096;
 /// Most characters of a font
 const CHARACTERS_MAX: usize = 256;
+/// Kinds of the empty option records after kind 1, in their order
+const OPTIONS: [u16; 1] = [CAPITALS];
+/// Kind of the record for capital-only fonts
+pub const CAPITALS: u16 = 4;
 /// Tags that a sign file may support
 const TAGS: [Tag; 9] = [
     Tag::Fo,
@@ -35,11 +40,14 @@ pub struct Sign {
     board: Box<Board>,
     version_ids: Vec<(u8, u16)>,
     comparable: bool,
+    options: Vec<u16>,
 }
 
 /// What has been read so far
 struct Reading {
     board: Box<Board>,
+    /// Kinds of the option records
+    options: Vec<u16>,
     /// Number, version id and offset of each font record
     fonts: Vec<(u8, u16, usize)>,
     /// Characters of the font before
@@ -64,7 +72,13 @@ impl Sign {
             board: reading.board,
             version_ids,
             comparable,
+            options: reading.options,
         })
+    }
+
+    /// Whether the file has an option record of a kind
+    pub fn has(&self, option: u16) -> bool {
+        self.options.contains(&option)
     }
 
     /// Number and real version id of each font, in the file's order
@@ -121,8 +135,16 @@ impl Reading {
         }
         let (body, mut offset) = record(file, 0, 1).ok_or(refused(0))?;
         let board = configuration(body).ok_or(refused(0))?;
+        let mut options = Vec::new();
+        for kind in OPTIONS {
+            if let Some((&[], next)) = record(file, offset, kind) {
+                options.push(kind);
+                offset = next;
+            }
+        }
         let mut reading = Reading {
             board,
+            options,
             fonts: Vec::new(),
             characters: 0,
         };

@@ -3,7 +3,7 @@
 mod common;
 
 use common::{board_p, record};
-use kambelohi_oracle::{Answer, Sign, listing, version_ids};
+use kambelohi_oracle::{Answer, CAPITALS, Sign, listing, version_ids};
 
 /// The refusal of a sign file, as a line
 fn refused(file: &[u8]) -> String {
@@ -43,7 +43,7 @@ fn configuration() {
 fn cut_short() {
     let file = board_p().raw();
     assert_eq!(refused(&file), "accepted");
-    // records start at 0, 19, 29, 41, 54; the file has 61 bytes
+    // records start at 0, 19, 29, 41, 54; the file has 64 bytes
     let starts = [0, 19, 29, 41, 54, file.len()];
     for n in 0..file.len() {
         let start = starts.iter().rev().find(|s| **s <= n).unwrap();
@@ -83,6 +83,37 @@ fn kinds() {
     let no_font = [&first[..], &record(3, &[65, 0, 0])].concat();
     assert_eq!(refused(&no_font), "4 1 19 0 0");
     assert_eq!(refused(&file[19..]), "4 1 0 0 0");
+}
+
+#[test]
+fn options() {
+    let file = board_p().file();
+    let (first, rest) = file.split_at(19);
+    let with = |parts: &[&[u8]]| refused(&parts.concat());
+    let option = record(CAPITALS, &[]);
+    let whole = [first, &option[..], rest].concat();
+    let sign = Sign::read(&whole).unwrap();
+    assert!(sign.has(CAPITALS) && !board_p().sign().has(CAPITALS));
+    // the Rust lists as without it
+    for message in ["AB", "ab", "A[nl]c"] {
+        assert_eq!(
+            listing(&whole, message.as_bytes()),
+            board_p().list(message)
+        );
+    }
+    assert_eq!(with(&[&option, first, rest]), "4 1 0 0 0");
+    assert_eq!(with(&[first, &option]), "accepted");
+    assert_eq!(with(&[first, &option, &option, rest]), "4 1 23 0 0");
+    assert_eq!(with(&[first, &record(CAPITALS, &[0]), rest]), "4 1 19 0 0");
+    assert_eq!(with(&[first, rest, &option]), "4 1 64 0 0");
+    assert_eq!(with(&[first, &rest[..10], &option]), "4 1 29 0 0");
+    assert_eq!(with(&[first, &option, first]), "4 1 23 0 0");
+    for kind in [5, 6, 7, 260] {
+        assert_eq!(with(&[first, &record(kind, &[]), rest]), "4 1 19 0 0");
+    }
+    for n in 1..4 {
+        assert_eq!(with(&[first, &option[..n]]), "4 1 19 0 0");
+    }
 }
 
 #[test]
