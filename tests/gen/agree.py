@@ -3,6 +3,7 @@
 import re
 
 import streams
+from signs import model
 
 # what document 01 gives where the Rust stops, but for [f0]
 INSTEAD = ("6", "8", "10", "11", "12", "13", "14")
@@ -30,7 +31,14 @@ def refuses_field_0(words, message):
     return FIELD_0.fullmatch(message[start:start + length]) is not None
 
 
-def compare_listings(one, other, message):
+def stands_in(words, sign, message):
+    """Whether this is the Rust's refusal of a small letter for which a capital stands in (A4)."""
+    if words is None or words[:4] != ["4", "12", "-", "-"]:
+        return False
+    return int(words[4]) in model.stand_ins(sign, message)
+
+
+def compare_listings(one, other, message, sign):
     """None where they agree, a row of the table where one side has no answer, else False."""
     left, right = streams.steps(one), streams.steps(other)
     for place in range(max(len(left), len(right))):
@@ -44,6 +52,8 @@ def compare_listings(one, other, message):
         for mine, others in ((a_words, b_words), (b_words, a_words)):
             if mine and mine[0] == "6":
                 return (told(mine), told(others))
+            if others and stands_in(mine, sign, message):
+                return ("refusal 12, a capital stands in", told(others))
             if refuses_field_0(mine, message) and others and others[0] in ("4", "5"):
                 return ("passes over [f0], " + told(others), told(mine))
             if mine and mine[0] == "5" and others and others[0] == "4" and others[1] in INSTEAD:
@@ -75,7 +85,7 @@ def compare_values(one, other):
 def compare_blocks(one, other):
     kind = one.line[0]
     if kind == "L":
-        return compare_listings(one.answer, other.answer, streams.message_of(one.line))
+        return compare_listings(one.answer, other.answer, streams.message_of(one.line), streams.message_of(one.sign))
     if kind == "V":
         return compare_values(one.answer, other.answer)
     if one.answer == other.answer:

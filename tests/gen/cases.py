@@ -98,6 +98,24 @@ def sign_block(rng, room):
         yield "L " + word(maker.message()), True
 
 
+def options_block(rng, room):
+    """An S line of a board with option records, right or wrong, and some cases on it, as (line, is a case)."""
+    plan = signs.option_sign(rng, wrong_version=rng.random() < 0.01)
+    if rng.random() < 0.65:
+        data = signs.damaged_options(rng, plan)
+        count = rng.randint(1, 2)
+    else:
+        data = plan.data()
+        count = rng.randint(5, 25)
+    yield "S " + word(data), False
+    if rng.random() < 0.2 and room > 1:
+        yield "I", True
+        room -= 1
+    maker = messages.OptionMaker(rng, plan, signs.as_typed(plan))
+    for _ in range(min(count, room)):
+        yield "L " + word(maker.message()), True
+
+
 def sums_block(rng, room):
     """An S line of a board of wide letters and some cases on it, as (line, is a case)."""
     plan = signs.wide_sign(rng)

@@ -660,6 +660,42 @@ class Maker:
         return getattr(self, self.rng.choices(styles, weights)[0])()
 
 
+class OptionMaker(Maker):
+    """Makes messages for a sign with option records (document 02): those of Maker, of the characters that the fonts have or of those
+    that can be typed, and messages about what the options change."""
+
+    def __init__(self, rng, sign, typed):
+        Maker.__init__(self, rng, sign)
+        self.typed = Maker(rng, typed)
+
+    def small(self):
+        """Letters of either case in text and [hc]: those of a font, those whose capital it has, now and then one that has
+        neither form."""
+        rng = self.rng
+        fonts = [font for font in self.typed.sign.fonts if font.letters]
+        out = []
+        for _ in range(rng.randint(1, 4)):
+            chosen = rng.choice(fonts) if fonts else None
+            if chosen is not None and (chosen.number != self.sign.font or rng.random() < 0.3):
+                out.append(self.tag("fo", str(chosen.number)))
+            letters = [code for code in chosen.letters if 65 <= code <= 122] if chosen else []
+            codes = [rng.choice(letters) for _ in range(rng.randint(1, 3))] if letters else [97]
+            if self.chance(0.2):
+                codes[rng.randrange(len(codes))] = rng.choice((rng.randint(97, 122), rng.randint(97, 122), 96, 123, 0xE9, 0xE0))
+            if self.chance(0.3):
+                out += [self.tag("hc", rng.choice(("%x", "%X", "+%x", "00%x")) % code) for code in codes]
+            else:
+                out.append("".join(chr(code) for code in codes))
+            if self.chance(0.3):
+                out.append(rng.choice((self.new_line(), self.set_just_line(), self.tag("np"))))
+        return "".join(out).encode()
+
+    def message(self):
+        ways = [(Maker.message, self), (Maker.message, self.typed), (OptionMaker.small, self)]
+        way, maker = self.rng.choices(ways, (4, 4, 3))[0]
+        return way(maker)
+
+
 class SumsMaker:
     """Makes messages for a board of `signs.wide_sign`: runs whose widths, spacings or heights pass 65,535, or stay just below
     it, with what 10, 11 or 12 refuses before the sum has passed it, after it, or in another group."""

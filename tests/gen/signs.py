@@ -42,7 +42,7 @@ class FontPlan:
 
 
 class SignPlan:
-    def __init__(self, width, height, char_width, char_height, font, just_line, just_page, on, off, tags, fonts):
+    def __init__(self, width, height, char_width, char_height, font, just_line, just_page, on, off, tags, fonts, options=()):
         self.width = width
         self.height = height
         self.char_width = char_width
@@ -54,6 +54,7 @@ class SignPlan:
         self.off = off
         self.tags = tags
         self.fonts = fonts
+        self.options = options  # kinds of the empty records after kind 1
 
     def supports(self, name):
         return self.tags >> model.BITS[name] & 1 == 1
@@ -73,6 +74,7 @@ class SignPlan:
 
     def records(self, **changed):
         parts = [record(1, self.configuration(**changed))]
+        parts += [record(kind, b"") for kind in self.options]
         for font in self.fonts:
             parts += font.records()
         return parts
@@ -81,9 +83,10 @@ class SignPlan:
         return b"".join(self.records())
 
 
-def make_font(rng, number, height, fixed=None, spacing=None, line_spacing=None, most=20, wrong_version=False):
-    """A font with random characters; `fixed` is the one width of them all."""
-    pool = list(range(65, 91)) + [32, 33, 45] + list(range(48, 58)) + list(range(97, 103))
+def make_font(rng, number, height, fixed=None, spacing=None, line_spacing=None, most=20, wrong_version=False, pool=None):
+    """A font with random characters of the pool, and others; `fixed` is the one width of them all."""
+    if pool is None:
+        pool = list(range(65, 91)) + [32, 33, 45] + list(range(48, 58)) + list(range(97, 103))
     codes = rng.sample(pool, rng.randint(3, max(3, most)))
     for extra, chance in ((91, 0.75), (93, 0.5), (0xE9, 0.35), (0xFF, 0.2), (0x80, 0.1), (1, 0.1), (0x7F, 0.05),
                           (0x20AC, 0.15), (0xFFFF, 0.08), (0x100, 0.08), (0xD800, 0.03), (0xE000, 0.04)):
@@ -112,7 +115,7 @@ def make_tags(rng):
     return sum(1 << model.BITS[name] for name in TAGS if rng.random() < 0.85)
 
 
-def make_sign(rng, matrix=None, small=False, wrong_version=False):
+def make_sign(rng, matrix=None, small=False, wrong_version=False, pool=None):
     """A right sign file's plan. matrix: "full", "line" or "character"."""
     if matrix is None:
         matrix = rng.choices(("full", "line", "character"), (55, 22, 23))[0]
@@ -132,7 +135,7 @@ def make_sign(rng, matrix=None, small=False, wrong_version=False):
         for number in numbers:
             height = rng.randint(1, 12)
             fixed = rng.randint(1, 8) if rng.random() < 0.25 else None
-            fonts.append(make_font(rng, number, height, fixed, None, None, most, wrong_version))
+            fonts.append(make_font(rng, number, height, fixed, None, None, most, wrong_version, pool))
         tallest = max([font.height for font in fonts] or [7])
         width = rng.choice((rng.randint(20, 60), rng.randint(40, 150), rng.randint(100, 400)))
         height = tallest * rng.randint(1, 5) + rng.randint(0, 16)
@@ -144,7 +147,7 @@ def make_sign(rng, matrix=None, small=False, wrong_version=False):
             fixed, spacing = None, None
             if matrix == "character" and rng.random() < 0.85:
                 fixed, spacing = char_width, 0
-            fonts.append(make_font(rng, number, height, fixed, spacing, None, most, wrong_version))
+            fonts.append(make_font(rng, number, height, fixed, spacing, None, most, wrong_version, pool))
         width = max(1, char_width) * rng.randint(4, 30) if matrix == "character" else rng.randint(20, 150)
         height = char_height * rng.randint(1, 6)
         if rng.random() < 0.08:
@@ -165,6 +168,35 @@ def make_sign(rng, matrix=None, small=False, wrong_version=False):
     off = rng.choice((0, 0, 0, 0, 5, 1, 255, rng.randint(0, 255)))
     return SignPlan(width, height, char_width, char_height, default, rng.choice((2, 2, 3, 3, 4)),
                     rng.choice((2, 2, 3, 3, 4)), on, off, make_tags(rng), fonts)
+
+
+def option_sign(rng, wrong_version=False):
+    """A sign with some of the option records; its fonts have capitals and few small letters, some of these beside their capital."""
+    # @ and two letters of Latin-1, so that nothing but a to z can be taken for a small letter
+    pool = list(range(65, 91)) + [32, 48, 64, 0xC0, 0xC9] + rng.sample(range(97, 123), rng.choice((0, 0, 1, 2, 4)))
+    plan = make_sign(rng, small=rng.random() < 0.3, wrong_version=wrong_version, pool=pool)
+    plan.options = rng.choice(option_sets())
+    return plan
+
+
+def option_sets():
+    """The option records that a file may have, in their order: all but none."""
+    sets = [()]
+    for kind in model.OPTIONS:
+        sets += [chosen + (kind,) for chosen in sets]
+    return sets[1:]
+
+
+def as_typed(plan):
+    """The plan with each character that can be typed on it: a small letter for which the capital stands in, too (A4)."""
+    fonts = []
+    for font in plan.fonts:
+        capitals = [(code + 32, width, bitmap) for code, width, bitmap in font.characters
+                    if model.CAPITALS in plan.options and 65 <= code <= 90 and code + 32 not in font.widths]
+        typed = FontPlan(font.number, font.height, font.char_spacing, font.line_spacing, font.characters + capitals)
+        typed.version = font.version
+        fonts.append(typed)
+    return SignPlan(**dict(vars(plan), fonts=fonts))
 
 
 def wide_sign(rng):
@@ -212,6 +244,40 @@ def full_size_file(rng, size=65535):
     data += b"".join(FontPlan(rng.randint(2, 255), 8, 1, 1, narrow).records())
     assert len(data) == size
     return data
+
+
+def damaged_options(rng, plan):
+    """A sign file with an option record that breaks a rule; now and then one that is in its place."""
+    first, *rest = SignPlan(**dict(vars(plan), options=())).records()
+    kind = rng.choice(model.OPTIONS + (4, 5, 6))
+    option = record(kind, b"")
+    right = [record(kind, b"") for kind in plan.options]
+    choice = rng.randint(-1, 8)
+    if choice < 1:
+        # anywhere, in front of kind 1 too
+        parts = [first] + right[:rng.randint(0, 1)] + rest
+        parts.insert(rng.choice((0, 2, 3, rng.randint(0, len(parts)), len(parts))), option)
+        return b"".join(parts)
+    if choice == 1:
+        # directly after kind 1, in any order and number
+        return first + b"".join(record(rng.choice((4, 5, 6)), b"") for _ in range(rng.randint(1, 4))) + b"".join(rest)
+    if choice == 2:
+        # twice, together or not
+        return first + b"".join([option] + rest[:rng.choice((0, 1, len(rest)))] + [option] + rest)
+    if choice in (3, 4):
+        # with a body
+        return first + b"".join(right[:rng.randint(0, 1)]) + record(kind, bytes(rng.choice((1, 2, 3, 6, 15)))) + b"".join(rest)
+    if choice == 5:
+        # cut short, with a body or without
+        part = option[:rng.randint(1, 3)] if rng.random() < 0.4 else record(kind, bytes(3))[:rng.randint(4, 6)]
+        return first + b"".join(right[:rng.randint(0, 1)]) + part
+    if choice == 6:
+        # a length without its body: the bytes behind it are taken for one
+        return first + rng.choice((1, 4, 10, 256, 65535)).to_bytes(2, "little") + option[2:] + b"".join(rest)
+    if choice == 7:
+        # a kind of which only the low byte is that of an option, or the next kind
+        return first + b"".join(right) + record(rng.choice((kind + 256, kind << 8, 7)), b"") + b"".join(rest)
+    return damaged(rng, plan)  # behind options in their place
 
 
 def damaged(rng, plan):
