@@ -1,10 +1,16 @@
 //! Compares the listing call with the Rust, on the messages and sign files of
-//! a case stream.
+//! a stream, and with the model where the stream has its answers.
+//!
+//! The Rust has no options. It is given a sign file without its option records,
+//! and a listing in which an option matters is passed over, and counted:
+//! - kind 4: a capital stands in. The Rust refuses the small letter with 12, and
+//!   the model, which has been compared before, answers otherwise.
 
+use crate::Fault;
 use crate::counts::ask_place;
 use crate::kambelohi::{ListAnswer, Span, list};
 use crate::stops::{EVERY, Why};
-use kambelohi_oracle::{Answer, Record, listing};
+use kambelohi_oracle::{Answer, CAPITALS, Record, Refusal, Sign};
 use std::collections::BTreeMap;
 
 /// Records that a lent slice must have
@@ -48,6 +54,49 @@ impl ListAnswer {
     }
 }
 
+/// A sign file, as bytes for the call and read for the Rust
+pub struct SignFile {
+    pub bytes: Vec<u8>,
+    pub read: Result<Sign, Refusal>,
+}
+
+impl SignFile {
+    pub fn new(bytes: Vec<u8>) -> Self {
+        let read = Sign::read(&bytes);
+        SignFile { bytes, read }
+    }
+
+    /// Whether it is accepted with an option record of a kind
+    pub fn has(&self, option: u16) -> bool {
+        self.read.as_ref().is_ok_and(|sign| sign.has(option))
+    }
+
+    /// Whether it is accepted with options, so that the Rust alone can not tell
+    /// what is right
+    pub fn has_options(&self) -> bool {
+        OPTIONS.iter().any(|(kind, _)| self.has(*kind))
+    }
+
+    /// What the Rust lists
+    fn listing(&self, msg: &[u8]) -> Vec<Answer> {
+        match &self.read {
+            Ok(sign) => sign.listing(msg),
+            Err(refusal) => vec![Answer::Refused(refusal.clone())],
+        }
+    }
+}
+
+/// Kinds of option records, and where a listing is passed over
+const OPTIONS: [(u16, &str); 1] = [(CAPITALS, "a capital stands in")];
+
+/// Listings on files with an option record of a kind: compared with the Rust,
+/// and passed over
+#[derive(Default)]
+pub struct Optional {
+    pub compared: usize,
+    pub passed: usize,
+}
+
 /// Listings by their last answer, and where the Rust gives none to compare
 #[derive(Default)]
 pub struct Spread {
@@ -59,6 +108,8 @@ pub struct Spread {
     pub stops: BTreeMap<(Why, u16), usize>,
     pub field_0: usize,
     pub not_comparable: usize,
+    pub options: BTreeMap<u16, Optional>,
+    pub modelled: usize,
 }
 
 impl Spread {
@@ -72,6 +123,16 @@ impl Spread {
         }
         println!("[f0], here 5 by position: {}", self.field_0);
         println!("version ids not the Rust's: {}", self.not_comparable);
+        for (kind, why) in OPTIONS {
+            if let Some(n) = self.options.get(&kind) {
+                println!(
+                    "kind {kind}: {} compared with the Rust, {} passed over \
+                     ({why})",
+                    n.compared, n.passed
+                );
+            }
+        }
+        println!("compared with the model: {}", self.modelled);
         println!(
             "{} listings, {} answers, {} records: none differs",
             self.listings, self.answers, self.records
@@ -95,7 +156,27 @@ impl Spread {
         if self.field_0 == 0 {
             all.push("[f0]".to_string());
         }
+        for (kind, why) in OPTIONS {
+            let n = self.options.get(&kind);
+            if n.is_none_or(|n| n.compared == 0) {
+                all.push(format!("kind {kind}, compared"));
+            }
+            if n.is_none_or(|n| n.passed == 0) {
+                all.push(format!("kind {kind}, {why}"));
+            }
+        }
         all
+    }
+
+    /// Count a listing on a file with options
+    fn count(&mut self, file: &SignFile, passed: Option<u16>) {
+        for (kind, _) in OPTIONS {
+            if file.has(kind) {
+                let n = self.options.entry(kind).or_default();
+                n.compared += usize::from(passed.is_none());
+                n.passed += usize::from(passed == Some(kind));
+            }
+        }
     }
 }
 
@@ -175,18 +256,40 @@ fn differs(number: usize, want: &Answer, got: &ListAnswer) -> String {
     format!("answer {number}\nRust {want}\nhere {got:?}")
 }
 
-/// Compare a whole listing
+/// The option that makes the Rust refuse where an answer is another
+fn passed_over(
+    file: &SignFile,
+    want: &Answer,
+    got: &ListAnswer,
+) -> Option<u16> {
+    let Answer::Refused(r) = want else {
+        return None;
+    };
+    let same = got.kind == 4
+        && got.number == u16::from(r.number)
+        && u32::from(got.detail) == r.detail;
+    let letter = (u32::from(b'a')..=u32::from(b'z')).contains(&r.detail);
+    (file.has(CAPITALS) && r.number == 12 && letter && !same)
+        .then_some(CAPITALS)
+}
+
+/// Compare a whole listing with the Rust. On a file with options the answers
+/// have been compared with the model's before.
 pub fn compare(
-    sign: &[u8],
+    file: &SignFile,
     msg: &[u8],
     slice: &mut [Span],
     spread: &mut Spread,
 ) -> Result<(), String> {
     spread.listings += 1;
-    let wanted = listing(sign, msg);
+    let wanted = file.listing(msg);
     for (number, want) in wanted.iter().enumerate() {
         spread.answers += 1;
-        let got = ask(sign, msg, number, slice)?;
+        let got = ask(&file.bytes, msg, number, slice)?;
+        if let Some(option) = passed_over(file, want, &got) {
+            spread.count(file, Some(option));
+            return Ok(());
+        }
         // the Rust's scan passes over it; the page never comes
         if matches!(want, Answer::Refused(_) | Answer::Stop(_))
             && got.kind == 4
@@ -196,6 +299,7 @@ pub fn compare(
                 .is_some_and(is_field_0)
         {
             spread.field_0 += 1;
+            spread.count(file, None);
             return Ok(());
         }
         let same = match want {
@@ -227,14 +331,73 @@ pub fn compare(
             }),
             Answer::NotComparable => {
                 spread.not_comparable += 1;
-                true
+                return Ok(());
             }
         };
         if !same {
             return Err(differs(number, want, &got));
         }
     }
+    spread.count(file, None);
     Ok(())
+}
+
+/// The numbers of a line
+fn line_numbers(line: &str) -> Option<Vec<u16>> {
+    line.split(' ').map(|n| n.parse().ok()).collect()
+}
+
+/// An answer from the first of its lines
+fn model_answer(line: &str) -> Option<ListAnswer> {
+    match line_numbers(line)?[..] {
+        [1, duration, count] => Some(ListAnswer::on(duration, count)),
+        [2, duration] => Some(ListAnswer::off(duration)),
+        [3, count] => Some(ListAnswer::end(count)),
+        [4, number, start, length, detail] => {
+            Some(ListAnswer::refused(number, start, length, detail))
+        }
+        _ => None,
+    }
+}
+
+/// Compare a whole listing with the lines of the model's, places and details
+/// included
+pub fn compare_model(
+    file: &SignFile,
+    msg: &[u8],
+    lines: &[String],
+    slice: &mut [Span],
+    spread: &mut Spread,
+) -> Result<(), Fault> {
+    spread.modelled += 1;
+    let no_answer = || Fault::stream("no answer of a listing");
+    let (mut rest, mut number) = (lines, 0);
+    while let Some((line, after)) = rest.split_first() {
+        let want = model_answer(line).ok_or_else(no_answer)?;
+        let got = ask(&file.bytes, msg, number, slice).map_err(Fault::Differs)?;
+        if got != want {
+            let said = format!("answer {number}\nmodel {want:?}\nhere {got:?}");
+            return Err(Fault::Differs(said));
+        }
+        let count = if want.kind == 1 { want.count.into() } else { 0 };
+        let records = after.get(..count).ok_or_else(no_answer)?;
+        for (i, line) in records.iter().enumerate() {
+            let want = line_numbers(line).ok_or_else(no_answer)?;
+            if slice[i].0[..] != want {
+                let got = slice[i];
+                let said = format!(
+                    "answer {number}, record {i}\nmodel {want:?}\nhere {got:?}"
+                );
+                return Err(Fault::Differs(said));
+            }
+        }
+        if matches!(want.kind, 3 | 4) != after.is_empty() {
+            return Err(no_answer());
+        }
+        rest = &after[count..];
+        number += 1;
+    }
+    if number == 0 { Err(no_answer()) } else { Ok(()) }
 }
 
 /// Slices that are too short, and answers past the last: any bytes

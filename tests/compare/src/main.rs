@@ -1,17 +1,20 @@
-//! Compares the calls with the Rust, on the messages of a case stream.
+//! Compares the calls with the Rust, on the messages of a case stream, and with
+//! the model where it is an answer stream of the model.
 //!
 //! For each V line: every slice of the message by the real `next_slice` and
 //! `Value::try_from` against `kambelohi_read` at its start; every other offset
 //! against the rules for offsets. For each L line: every answer of the real
 //! `Pages` with its records against `kambelohi_list` on a patterned slice, and
-//! `kambelohi_place` against that, with the counts of the records; all of them
-//! together against `kambelohi_list_all`.
+//! so the model's answers; `kambelohi_place` against that, with the counts of
+//! the records; all of them together against `kambelohi_list_all`. Of sign files
+//! with options the Rust alone can not tell what is right: an L line on one needs
+//! the model's answers.
 //! The first difference ends the run with 1, and its case is written to the
-//! file compare-failed.txt. Standard input is one case stream or several, one
+//! file compare-failed.txt. Standard input is one stream or several, one
 //! after the other; one that is cut or damaged ends the run with 2, and so does
 //! a run without a V or L line. `--progress` tells how far the run is. With
-//! `--every` the run ends with 1 where a value, a refusal or a stop of the Rust
-//! that can come does not.
+//! `--every` the run ends with 1 where a value, a refusal, a stop of the Rust
+//! or a use of an option that can come does not.
 //!
 //! With `--sentences` standard input has no streams but sentences (see
 //! sentences.rs), which are compared with those of `kambelohi_sentence`; with
@@ -26,6 +29,7 @@ mod whole;
 
 use kambelohi::{ReadAnswer, Span, read};
 use kambelohi_oracle::values;
+use listings::SignFile;
 use std::collections::BTreeMap;
 use std::io::BufRead;
 
@@ -154,15 +158,33 @@ fn save(sign: Option<&str>, line: &str) {
     }
 }
 
+/// A stream being read
+#[derive(Default)]
+struct Stream {
+    cases: usize,
+    /// It has the model's answers
+    answered: bool,
+}
+
+/// A case, with the number of its line, and the lines of the model's answer if
+/// the stream has them
+struct Case {
+    number: usize,
+    line: String,
+    answer: Option<Vec<String>>,
+}
+
 /// Where a run stands
 #[derive(Default)]
 struct Run {
-    /// The cases of the stream at hand; none between streams
-    cases: Option<usize>,
+    /// The stream at hand; none between streams
+    stream: Option<Stream>,
     counts: Counts,
     spread: listings::Spread,
-    hex: Option<String>,
-    sign: Vec<u8>,
+    /// The number of the line that is read
+    number: usize,
+    sign: Option<(String, SignFile)>,
+    case: Option<Case>,
     slice: Vec<Span>,
     lent: whole::Lent,
 }
@@ -176,75 +198,133 @@ enum Fault {
 }
 
 impl Fault {
-    fn stream(said: &str) -> Self {
+    pub fn stream(said: &str) -> Self {
         Fault::Stream(said.to_string())
     }
 }
 
 impl Run {
-    fn list(&mut self, msg: &[u8]) -> Result<(), String> {
+    fn list(
+        &mut self,
+        msg: &[u8],
+        answer: Option<&[String]>,
+    ) -> Result<(), Fault> {
+        let Some((_, file)) = &self.sign else {
+            return Err(Fault::stream("no sign file before it"));
+        };
         self.slice.resize(1403, Span::default());
         let n = 1400 + self.spread.listings % 4;
         let slice = &mut self.slice[..n];
-        listings::compare(&self.sign, msg, slice, &mut self.spread)?;
-        whole::compare(&self.sign, msg, &mut self.lent, self.spread.listings)?;
+        match answer {
+            Some(lines) => {
+                let spread = &mut self.spread;
+                listings::compare_model(file, msg, lines, slice, spread)?;
+            }
+            None if file.has_options() => {
+                return Err(Fault::stream("a file with options, no answers"));
+            }
+            None => (),
+        }
+        listings::compare(file, msg, slice, &mut self.spread)
+            .map_err(Fault::Differs)?;
+        whole::compare(&file.bytes, msg, &mut self.lent, self.spread.listings)
+            .map_err(Fault::Differs)?;
         if self.spread.listings % 8 == 0 {
-            listings::compare_rest(&self.sign, msg, slice)?;
+            listings::compare_rest(&file.bytes, msg, slice)
+                .map_err(Fault::Differs)?;
         }
         Ok(())
     }
 
+    /// Compare the case at hand, if there is one
+    fn settle(&mut self) -> Result<(), Fault> {
+        let Some(case) = self.case.take() else {
+            return Ok(());
+        };
+        let result = self.compare(&case);
+        // kept for what is told of it
+        self.case = result.is_err().then_some(case);
+        result
+    }
+
     /// Compare a case
-    fn case(&mut self, line: &str) -> Result<(), Fault> {
+    fn compare(&mut self, case: &Case) -> Result<(), Fault> {
+        let line = &case.line;
         let (kind, hex) = line.split_once(' ').unwrap_or((line, "-"));
-        if matches!(kind, "I" | "L") && self.hex.is_none() {
+        if kind == "I" && self.sign.is_none() {
             return Err(Fault::stream("no sign file before it"));
         }
         match (kind, decode(hex)) {
-            ("V", Some(msg)) => compare(&msg, &mut self.counts),
-            ("L", Some(msg)) => self.list(&msg),
+            ("V", Some(msg)) => {
+                compare(&msg, &mut self.counts).map_err(Fault::Differs)
+            }
+            ("L", Some(msg)) => self.list(&msg, case.answer.as_deref()),
             // numbers and version ids, which no call gives alone
             ("D" | "X" | "Q" | "I", _) => Ok(()),
-            _ => return Err(Fault::stream("no line of a case stream")),
+            _ => Err(Fault::stream("no line of a stream")),
         }
-        .map_err(Fault::Differs)
     }
 
     /// Take a line of a stream
     fn line(&mut self, line: &str) -> Result<(), Fault> {
-        let Some(cases) = self.cases else {
-            if line != "kambelohi cases 1" {
-                return Err(Fault::stream("not the head of a case stream"));
-            }
-            self.cases = Some(0);
+        let Some(stream) = &mut self.stream else {
+            let answered = match line {
+                "kambelohi cases 1" => false,
+                "kambelohi answers 1" => true,
+                _ => return Err(Fault::stream("not the head of a stream")),
+            };
+            self.stream = Some(Stream { cases: 0, answered });
             return Ok(());
         };
+        if stream.answered && line.starts_with(|c: char| c.is_ascii_digit()) {
+            let lines = self.case.as_mut().and_then(|c| c.answer.as_mut());
+            let lines = lines.ok_or(Fault::stream("no case before it"))?;
+            lines.push(line.to_string());
+            return Ok(());
+        }
+        self.settle()?;
+        self.next_case(line)
+    }
+
+    /// Take a line that is no answer
+    fn next_case(&mut self, line: &str) -> Result<(), Fault> {
+        let stream = self.stream.as_mut().expect("a stream at hand");
         if let Some(hex) = line.strip_prefix("S ") {
-            self.sign = decode(hex).ok_or(Fault::stream("bad bytes"))?;
-            self.hex = Some(hex.to_string());
+            let bytes = decode(hex).ok_or(Fault::stream("bad bytes"))?;
+            self.sign = Some((hex.to_string(), SignFile::new(bytes)));
             return Ok(());
         }
         if line.starts_with("end ") {
-            if line != format!("end {cases}") {
+            if line != format!("end {}", stream.cases) {
                 return Err(Fault::stream("not the count of its cases"));
             }
-            (self.cases, self.hex) = (None, None);
+            (self.stream, self.sign) = (None, None);
             return Ok(());
         }
-        self.cases = Some(cases + 1);
-        self.case(line)
+        stream.cases += 1;
+        let answered = stream.answered;
+        self.case = Some(Case {
+            number: self.number,
+            line: line.to_string(),
+            answer: answered.then(Vec::new),
+        });
+        if answered { Ok(()) } else { self.settle() }
     }
 
     /// Take the lines of standard input
     fn lines(&mut self, progress: bool) -> Result<(), Fault> {
         for (i, line) in std::io::stdin().lock().lines().enumerate() {
             let line = line.map_err(|e| Fault::Stream(e.to_string()))?;
-            let told = |e| format!("line {}: {line}\n{e}", i + 1);
-            match self.line(&line) {
+            self.number = i + 1;
+            let result = self.line(&line);
+            let case = self.case.as_ref();
+            let (n, case) = case.map_or((i + 1, &line), |c| (c.number, &c.line));
+            let told = |e| format!("line {n}: {case}\n{e}");
+            match result {
                 Ok(()) => (),
                 Err(Fault::Stream(e)) => return Err(Fault::Stream(told(e))),
                 Err(Fault::Differs(e)) => {
-                    save(self.hex.as_deref(), &line);
+                    save(self.sign.as_ref().map(|(hex, _)| &**hex), case);
                     return Err(Fault::Differs(told(e)));
                 }
             }
@@ -252,7 +332,7 @@ impl Run {
                 eprint!("\r{} listings", self.spread.listings);
             }
         }
-        if self.cases.is_some() {
+        if self.stream.is_some() {
             return Err(Fault::stream("the stream has no end"));
         }
         if self.counts.messages + self.spread.listings == 0 {
