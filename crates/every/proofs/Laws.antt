@@ -32,7 +32,7 @@ use Rattle.layout.specs.Listing.{Page, on, off, refused as refusedPage, pages}
 use Rattle.page.specs.Scan.{faultIs}
 use Rattle.rows.specs.Rows.{cells, cellsAt, stored, spanWidth, RowRoom, SpanRoom, spanFrom, spanAt, spansOf}
 use Rattle.rows.proofs.Laws.{cells-same, cells-length, part, one-more, spans-length}
-use Rattle.counts.specs.Placing.{fontsIn}
+use Rattle.counts.specs.Placing.{fontsIn, capitalsIn}
 use Rattle.meter.specs.Gauges.{meterIn}
 use Rattle.pages.specs.declared.Pages.{Pages}
 use Rattle.pages.specs.declared.PageShown.{PageShown}
@@ -477,7 +477,7 @@ module _ (file : List ℕ) (table : SignFile) (msg : List ℕ) (a k : ℕ) (all 
 
 board-is : (file msg : List ℕ) (c : Config) (fs : List Font) → signFile file ≡ Accepted c fs → boardIn file msg c ≡ boardOf msg c fs
 unfolding boardOf meterIn
-board-is file msg c fs q = ap (λ (x : Sign). record { config = c; meter = meterOf msg (fontsIn x) }) q
+board-is file msg c fs q = ap (λ (x : Sign). record { config = c; meter = meterOf msg (capitalsIn x) (fontsIn x) }) q
 
 -- x is the answer of `admit`
 module _ (file msg : List ℕ) {x : Admitted} (e : x ≡ handed (admission file msg) (signFile file)) where
