@@ -28,6 +28,7 @@
 #ifndef KAMBELOHI_H
 #define KAMBELOHI_H
 
+#include <stdbool.h>
 #include <stddef.h>
 #include <stdint.h>
 
@@ -155,8 +156,11 @@ typedef struct {
 /*
  * Reads the slice that starts at an offset of a message. From offset 0 on, the next slice is at start + length, also after a
  * refusal from 5 to 7; joined, the slices are the message.
+ *
+ * long_times: [pt] takes 0 to 65535 tenths of a second for each time, as on a sign whose file has a record of kind 5; else 0 to
+ * 255. No other slice reads otherwise.
  */
-kambelohi_read_answer kambelohi_read(const uint8_t *msg, size_t len, size_t offset);
+kambelohi_read_answer kambelohi_read(const uint8_t *msg, size_t len, size_t offset, bool long_times);
 
 /* ---- listing */
 

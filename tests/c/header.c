@@ -472,7 +472,7 @@ static void say_reading(kambelohi_read_answer a) {
 }
 
 static void reads(const char *name, lent msg, size_t offset, const char *want) {
-    say_reading(kambelohi_read(msg.at, msg.len, offset));
+    say_reading(kambelohi_read(msg.at, msg.len, offset, false));
     must_be(name, want);
 }
 
@@ -514,13 +514,25 @@ static void values(void) {
     value("[tr1,2,0,4]", KAMBELOHI_TEXT_RECTANGLE, "1 2 0 4 0 0 0 0");
 }
 
+/* Times that only long times allow, with and without them. */
+static void long_times(void) {
+    lent msg = lend_text("[pt600o65535]");
+    say_reading(kambelohi_read(msg.at, msg.len, 0, true));
+    must_be("long times", "0 0 0 13 0 18: 1 600 1 65535 0 0 0 0;");
+    say_reading(kambelohi_read(msg.at, msg.len, 0, false));
+    must_be("without long times", "2 6 0 13 0 0: 0 0 0 0 0 0 0 0;");
+    msg = lend_text("[pto65536]");
+    say_reading(kambelohi_read(msg.at, msg.len, 0, true));
+    must_be("over long times", "2 6 0 10 0 0: 0 0 0 0 0 0 0 0;");
+}
+
 /* All slices of a message, each after the one before, a refused one too; then the end. */
 static void slices(void) {
     lent msg = lend_text("[pt10o5]A\xc3\xa9[[[xx][np]B][nl10]\xe2\x82\xac");
     kambelohi_read_answer a;
     size_t offset = 0;
     do {
-        a = kambelohi_read(msg.at, msg.len, offset);
+        a = kambelohi_read(msg.at, msg.len, offset, false);
         say_reading(a);
         offset = a.start + a.length;
     } while (a.kind == KAMBELOHI_SLICE || (a.kind == KAMBELOHI_REFUSED && a.number >= KAMBELOHI_BAD_TAG));
@@ -622,6 +634,7 @@ int main(int argc, char **argv) {
     list_refusals(lend(file_end, sign, len));
     short_slices(lend(file_end, sign, len));
     values();
+    long_times();
     slices();
     read_refusals();
     sentences();

@@ -76,7 +76,7 @@ static void overrun(int sig) {
 static __attribute__((noinline)) void read_all(void) {
     GIVE_AWAY(KAMBELOHI_READ_STACK);
     for (size_t n = 0; n <= msg_len + 2; n++) {
-        kambelohi_read_answer a = kambelohi_read(msg, msg_len, n <= msg_len + 1 ? n : SIZE_MAX);
+        kambelohi_read_answer a = kambelohi_read(msg, msg_len, n <= msg_len + 1 ? n : SIZE_MAX, false);
         reading.calls++;
         reading.refusals[a.number % 32]++;
     }

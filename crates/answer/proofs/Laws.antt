@@ -113,7 +113,7 @@ pub record Stands (file : List ℕ) (table : SignFile) (msg : List ℕ) (number 
   pub room : length out ≡ length out₀
   pub same :
       numbered i (todo (boardIn file msg (table .config)) msg p) (number - i)
-      ≡ numbered 0 (pages (boardIn file msg (table .config)) (items msg)) number
+      ≡ numbered 0 (pages (boardIn file msg (table .config)) (items (table .config) msg)) number
 
 pub numbered-start : {file : List ℕ} {table : SignFile} {msg : List ℕ} {number : ℕ} {rows out : List ℕ} {p : Pages}
     → Ready file table msg rows out → p ≡ firstOf (table .config) → Stands file table msg number rows out rows out p 0
@@ -140,7 +140,7 @@ module _ {file : List ℕ} {table : SignFile} {msg : List ℕ} {number : ℕ} {r
   s = boardIn file msg (table .config)
 
   abbrev whole : Result
-  whole = numbered 0 (pages s (items msg)) number
+  whole = numbered 0 (pages s (items (s .config) msg)) number
 
   count-small : i < 65536
   count-small = omega (arith, z .few, z .stands .within, z .ready .small)
@@ -260,11 +260,11 @@ module _ (file msg : List ℕ) {x : Admitted} (e : x ≡ handed (admission file 
     module _ (n room : ℕ) (out : List ℕ) where
       -- what is behind the refusals of every call
       behind : result file msg n room
-          ≡ pick (ltb room 1400) (said (Refused (refusal 4 0 0 0))) (numbered 0 (pages (boardIn file msg (x .table .config)) (items msg)) n)
+          ≡ pick (ltb room 1400) (said (Refused (refusal 4 0 0 0))) (numbered 0 (pages (boardIn file msg (x .table .config)) (items (x .table .config) msg)) n)
       unfolding result
       behind =
           let o : Opens file msg (x .table) = opens file msg e h in
-          let after : Board → Result = λ y. pick (ltb room 1400) (said (Refused (refusal 4 0 0 0))) (numbered 0 (pages y (items msg)) n) in
+          let after : Board → Result = λ y. pick (ltb room 1400) (said (Refused (refusal 4 0 0 0))) (numbered 0 (pages y (items (x .table .config) msg)) n) in
           ap (λ (a : Admission). resultOn a msg n room) (o .is) ∙ sym (ap after (board-is file msg (x .table .config) (o .fs) (o .admits-it .sign)))
 
       pub call-short : {r : Placed} → room < 1400 → r ≡ bare (Refused (refusal 4 0 0 0)) → Answered file msg n room out out r

@@ -76,7 +76,7 @@ pub record CountsTold (file msg l : List ℕ) (r : Placed) : Type 0 where
 
 -- the answer of a number; out was there before it, and out′ is after it
 pub record Numbered (file : List ℕ) (table : SignFile) (msg : List ℕ) (number : ℕ) (out out′ : List ℕ) (r : Placed) : Type 0 where
-  pub ends : told (r .answer) out′ ≡ numbered 0 (pages (boardIn file msg (table .config)) (items msg)) number
+  pub ends : told (r .answer) out′ ≡ numbered 0 (pages (boardIn file msg (table .config)) (items (table .config) msg)) number
   pub counts : CountsTold file msg out′ r
   pub few : countOf (r .answer) ≤ length msg
   pub room : length out′ ≡ length out

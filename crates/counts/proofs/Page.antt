@@ -110,11 +110,11 @@ module _ (c : Config) (fs : List Font) (msg : List ℕ) where
   numbered-each k (off d ∷ l) (suc n) h = numbered-each (suc k) l n h
   numbered-each k (refused r ∷ l) (suc n) h = refl
 
-  pages-equal : (n : ℕ) → Equal ((numbered 0 (pages s (items msg)) n) .written)
+  pages-equal : (n : ℕ) → Equal ((numbered 0 (pages s (items c msg)) n) .written)
   unfolding pages
   pages-equal n =
-      let o : Scan = opening (s .config) (items msg) in
-      numbered-each 0 (pages s (items msg)) n (walk-each (events (s .config) (items msg)) (o .on) (o .off) [] 0 refl)
+      let o : Scan = opening (s .config) (items c msg) in
+      numbered-each 0 (pages s (items c msg)) n (walk-each (events (s .config) (items c msg)) (o .on) (o .off) [] 0 refl)
 
 -- ---- a call
 
@@ -132,13 +132,13 @@ module _ (file msg : List ℕ) (n : ℕ) (lent : List Span) where
   unfolding result
   counted =
       any-result msg n (length lent) (λ x. countedRecords (x .answer) (x .written ++ drop (length (x .written)) lent) ≡ x .written) (λ x. refl)
-      (admission file msg) (λ c fs e q. counted-is 0 (pages (boardOf msg c fs) (items msg)) n lent)
+      (admission file msg) (λ c fs e q. counted-is 0 (pages (boardOf msg c fs) (items c msg)) n lent)
 
   on-counts : Counts r
   unfolding result
   on-counts =
       any-result msg n (length lent) Counts (λ x d k e. absurd (let z : _≡_ {A = ℕ} 0 1 = cc in omega arith)) (admission file msg)
-      (λ c fs e q. numbered-counts 0 (pages (boardOf msg c fs) (items msg)) n)
+      (λ c fs e q. numbered-counts 0 (pages (boardOf msg c fs) (items c msg)) n)
 
   page-is : pageRecords file msg n lent ≡ r .written
   unfolding listing after

@@ -68,12 +68,12 @@ fn read_answer(r: Reading) -> ReadAnswer
     }
 }
 
-// Reading: message, offset.
+// Reading: message, offset, and whether long times hold.
 #[no_mangle]
-pub extern "C" fn kambelohi_read(msg: &[u8], offset: usize) -> ReadAnswer
-    ensures { λ r. ⌜ r ≡ readAnswer (readingOf (now (msg .entry)) offset) ⌝ }
+pub extern "C" fn kambelohi_read(msg: &[u8], offset: usize, long_times: bool) -> ReadAnswer
+    ensures { λ r. ⌜ r ≡ readAnswer (readingOf «long_times» (now (msg .entry)) offset) ⌝ }
 {
-    read_answer(reading::read(msg, offset))
+    read_answer(reading::read(msg, offset, long_times))
 }
 
 // An answer of a listing. kind: 1 on, 2 off, 3 the end, 4 a refusal. Of on: duration and count of records; of off: duration; of the end:

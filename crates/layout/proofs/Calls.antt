@@ -37,9 +37,9 @@ shows-runs (End n) h = absurd h
 shows-runs (Refused r) h = absurd h
 
 taken : (c : Config) (fs : List Font) (msg : List ℕ) (n room : ℕ) → Runs ((resultOn (admitted c fs) msg n room) .answer)
-    → resultOn (admitted c fs) msg n room ≡ numbered 0 (pages (boardOf msg c fs) (items msg)) n
+    → resultOn (admitted c fs) msg n room ≡ numbered 0 (pages (boardOf msg c fs) (items c msg)) n
 taken c fs msg n room =
-    admitted-result msg n room (λ r. Runs (r .answer) → r ≡ numbered 0 (pages (boardOf msg c fs) (items msg)) n) c fs (λ h. absurd h) (λ q h. refl)
+    admitted-result msg n room (λ r. Runs (r .answer) → r ≡ numbered 0 (pages (boardOf msg c fs) (items c msg)) n) c fs (λ h. absurd h) (λ q h. refl)
 
 -- ---- the answers in a row
 
@@ -129,7 +129,7 @@ module _ (file msg : List ℕ) (lent : ℕ → List Span) where
 
   module _ (c : Config) (fs : List Font) (acc : admission file msg ≡ admitted c fs) where
     abbrev ps : List Page
-    ps = pages (boardOf msg c fs) (items msg)
+    ps = pages (boardOf msg c fs) (items c msg)
 
     -- a call that is not refused
     result-is : (n : ℕ) → Runs (listing file msg n (lent n)) → result file msg n (length (lent n)) ≡ numbered 0 ps n

@@ -21,16 +21,17 @@ use Rattle.layout.specs.Listing.{pages, Result, said, numbered, resultOn
 module _ (msg : List ℕ) (n room : ℕ) (P : Result → Type 0) where
   -- an admitted call
   pub admitted-result : (c : Config) (fs : List Font) → P (said (Refused (refusal 4 0 0 0)))
-      → (1400 ≤ room → P (numbered 0 (pages (boardOf msg c fs) (items msg)) n)) → P (resultOn (admitted c fs) msg n room)
+      → (1400 ≤ room → P (numbered 0 (pages (boardOf msg c fs) (items c msg)) n)) → P (resultOn (admitted c fs) msg n room)
   admitted-result c fs r h = look (ltb room 1400) refl
     where
-      look : (v : Bool) → ltb room 1400 ≡ v → P (pick v (said (Refused (refusal 4 0 0 0))) (numbered 0 (pages (boardOf msg c fs) (items msg)) n))
+      look : (v : Bool) → ltb room 1400 ≡ v → P (pick v (said (Refused (refusal 4 0 0 0))) (numbered 0 (pages (boardOf msg c fs) (items c msg)) n))
       look true q = r
       look false q = h (ltb-false room 1400 q)
 
   -- any call
   pub any-result : ((x : Refusal) → P (said (Refused x))) → (a : Admission)
-      → ((c : Config) (fs : List Font) → a ≡ admitted c fs → 1400 ≤ room → P (numbered 0 (pages (boardOf msg c fs) (items msg)) n)) → P (resultOn a msg n room)
+      → ((c : Config) (fs : List Font) → a ≡ admitted c fs → 1400 ≤ room → P (numbered 0 (pages (boardOf msg c fs) (items c msg)) n))
+      → P (resultOn a msg n room)
   any-result r (denied x) h = r x
   any-result r (admitted c fs) h = admitted-result c fs (r (refusal 4 0 0 0)) (h c fs refl)
 

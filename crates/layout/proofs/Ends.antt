@@ -5,10 +5,11 @@ use native.Mathlib.Nat.{add-zero, zero-add}
 use mathlib.Core.Path.{_≡_, refl, sym, ap, _∙_, subst}
 use mathlib.Core.Bool.{Bool, true, false}
 use mathlib.Core.Option.{Option, none, some}
-use mathlib.Core.List.{List, [], _∷_, _++_}
+use mathlib.Core.List.{List, [], _∷_, _++_, map}
 use lib.Dec.{ltb}
 use borrow.Author.Tests.{ltb-true, ltb-false, le-ltb}
 use lib.ListN.{length}
+use Rattle.token.specs.Token.{Slice, slices}
 use Rattle.admit.specs.Admission.{Admission, denied, admitted, admission}
 use Rattle.refusal.specs.declared.Refusal.{Refusal}
 use Rattle.layout.specs.declared.Span.{Span}
@@ -17,14 +18,15 @@ use Rattle.layout.specs.declared.Answer.the-variants.{On, Off, End, Refu
 use Rattle.layout.specs.declared.RenderState.{RenderState}
 use Rattle.layout.specs.declared.Entry.{Entry}
 use Rattle.records.specs.declared.Config.{Config}
-use Rattle.layout.specs.Types.{Item, items, Board}
+use Rattle.layout.specs.Types.{Item, itemAt, items, Board}
 use Rattle.layout.specs.Fonts.{boardOf}
 use Rattle.layout.specs.Placing.{passRecords}
 use Rattle.layout.specs.Read.{Scan, Event, pass, close, stop, start, opening, events}
 use Rattle.layout.specs.Listing.{Page, on, off, refused, stopAt, offs, passStop, walk, pages, numbered, listing, Result, resultOn}
-use Rattle.layout.specs.Demand.{Shows}
+use Rattle.layout.specs.Demand.{Shows, roleIn}
 use Rattle.layout.specs.Bounds.{breaks, pageBreaks, Stops, StopsBy}
 use Rattle.layout.proofs.Cover.{ReadAs, ends, refuses, goes, emits, cuts, turns, fails, EventsAs, refused-at-once, begun, events-as}
+use Rattle.layout.proofs.Times.{same-breaks}
 use Rattle.layout.proofs.Items.{items-honest}
 use Rattle.layout.proofs.Checks.{admitted-result, answer-on}
 
@@ -50,7 +52,20 @@ walk-le s (pass r es ∷ evs) a b rs n = stop-le (passStop s n r es) _ _ (walk-l
 walk-le s (close p q ∷ evs) a b rs n = omega (arith, offs-le b (walk s evs p q [] 0), walk-le s evs p q [] 0)
 walk-le s (stop r ∷ evs) a b rs n = omega arith
 
-read-closes : {s : Config} {its : List Item} {st : RenderState} {acc : List Entry} {l : List Event} → ReadAs s its st acc l → closes l ≤ pageBreaks its
+-- the items that are [np]
+abbrev itemBreaks : List Item → ℕ
+itemBreaks [] = 0
+itemBreaks (it ∷ its) = breaks (roleIn (it .says)) + itemBreaks its
+
+cuts-breaks : (c : Config) (ss : List Slice) → itemBreaks (map (itemAt c) ss) ≡ pageBreaks ss
+cuts-breaks c [] = refl
+cuts-breaks c (s ∷ ss) = rw (same-breaks (c .«long_times») (s .start) (s .bytes), cuts-breaks c ss)
+
+items-breaks : (c : Config) (msg : List ℕ) → itemBreaks (items c msg) ≡ pageBreaks (slices msg)
+unfolding items
+items-breaks c msg = cuts-breaks c (slices msg)
+
+read-closes : {s : Config} {its : List Item} {st : RenderState} {acc : List Entry} {l : List Event} → ReadAs s its st acc l → closes l ≤ itemBreaks its
 read-closes ends = omega arith
 read-closes (refuses f) = omega arith
 read-closes (goes f q r) = omega (arith, read-closes r)
@@ -59,15 +74,21 @@ read-closes (cuts f q r) = omega (arith, read-closes r)
 read-closes (turns f q r) = omega (arith, ap breaks q, read-closes r)
 read-closes (fails f q x y e) = omega (arith, ap breaks q)
 
-events-closes : {s : Config} {its : List Item} {l : List Event} → EventsAs s its l → closes l ≤ pageBreaks its
+events-closes : {s : Config} {its : List Item} {l : List Event} → EventsAs s its l → closes l ≤ itemBreaks its
 events-closes (refused-at-once a b e) = omega arith
 events-closes (begun r) = read-closes r
 
-pages-le : (msg : List ℕ) (s : Board) → length (pages s (items msg)) ≤ 2 * suc (pageBreaks (items msg))
+pages-le : (msg : List ℕ) (s : Board) → length (pages s (items (s .config) msg)) ≤ 2 * suc (pageBreaks (slices msg))
 unfolding pages
 pages-le msg s =
-    let o : Scan = opening (s .config) (items msg) in
-    omega (arith, walk-le s (events (s .config) (items msg)) (o .on) (o .off) [] 0, events-closes (events-as (s .config) (items msg) (items-honest msg)))
+    let c : Config = s .config in
+    let o : Scan = opening c (items c msg) in
+    omega (
+      arith,
+      walk-le s (events c (items c msg)) (o .on) (o .off) [] 0,
+      events-closes (events-as c (items c msg) (items-honest c msg)),
+      items-breaks c msg,
+    )
 
 -- ---- the first answer that stops
 
@@ -114,16 +135,17 @@ numbered-stops c (on d rs ∷ l) = numbered-stops (suc c) l
 numbered-stops c (off d ∷ l) = numbered-stops (suc c) l
 numbered-stops c (refused x ∷ l) = tt
 
-pub always-stops : (file msg : List ℕ) (lent : ℕ → List Span) → StopsBy file msg lent (2 * suc (pageBreaks (items msg)))
+pub always-stops : (file msg : List ℕ) (lent : ℕ → List Span) → StopsBy file msg lent (2 * suc (pageBreaks (slices msg)))
+unfolding boardOf
 always-stops file msg lent = look (admission file msg) refl
   where
-    look : (a : Admission) → admission file msg ≡ a → StopsBy file msg lent (2 * suc (pageBreaks (items msg)))
+    look : (a : Admission) → admission file msg ≡ a → StopsBy file msg lent (2 * suc (pageBreaks (slices msg)))
     look (denied r) e = stop-at file msg lent 0 _ (omega arith) (rw (answer-on file msg 0 (lent 0) (denied r) e) tt)
     look (admitted c fs) e =
-        let n : ℕ = length (pages (boardOf msg c fs) (items msg)) in
+        let n : ℕ = length (pages (boardOf msg c fs) (items c msg)) in
         stop-at file msg lent n _ (pages-le msg (boardOf msg c fs))
         (rw (answer-on file msg n (lent n) (admitted c fs) e)
-        (admitted-result msg n (length (lent n)) (λ r. Stops (r .answer)) c fs tt (λ q. numbered-stops 0 (pages (boardOf msg c fs) (items msg)))))
+        (admitted-result msg n (length (lent n)) (λ r. Stops (r .answer)) c fs tt (λ q. numbered-stops 0 (pages (boardOf msg c fs) (items c msg)))))
 
 -- ---- "From a refused answer on, every later answer is that refusal"
 
@@ -146,7 +168,7 @@ room-is (admitted c fs) msg n room h = rw (le-ltb room 1400 h)
 result-stays : (a : Admission) (msg : List ℕ) (x : Refusal) (n m : ℕ) → n ≤ m → (resultOn a msg n 1400) .answer ≡ Refused x
     → (resultOn a msg m 1400) .answer ≡ Refused x
 result-stays (denied r) msg x n m h e = e
-result-stays (admitted c fs) msg x n m h e = numbered-stays x 0 (pages (boardOf msg c fs) (items msg)) n m h e
+result-stays (admitted c fs) msg x n m h e = numbered-stays x 0 (pages (boardOf msg c fs) (items c msg)) n m h e
 
 pub stays : (file msg : List ℕ) (n m : ℕ) (a b : List Span) (x : Refusal) → n ≤ m → 1400 ≤ length a → 1400 ≤ length b → listing file msg n a ≡ Refused x
     → listing file msg m b ≡ Refused x

@@ -14,6 +14,7 @@ use Rattle.token.specs.declared.Shape.{Shape}
 use Rattle.token.specs.declared.Shape.the-variants.{Bracket, Tag, Stray, Text as TextShape}
 use Rattle.token.specs.Token.{isPair, lastByte, sliceLen, Slice, cuts, slices, restLen, shapeOf}
 use Rattle.value.specs.declared.Value.{Value}
+use Rattle.records.specs.declared.Config.{Config}
 use Rattle.tag.specs.declared.Parsed.{Parsed}
 use Rattle.reading.specs.declared.Said.{Said}
 use Rattle.reading.specs.declared.Said.the-variants.{Is, Fails}
@@ -51,10 +52,10 @@ pick-fits : (sh : Shape) (a n : ℕ) (t : Bool) {x y : Said} → Fits sh a n x �
 pick-fits sh a n true p q = p
 pick-fits sh a n false p q = q
 
-module _ (a : ℕ) (s : List ℕ) (h : 1 ≤ length s) where
-  tag-fits : Fits Tag a (length s) (tagItem a s)
+module _ (long : Bool) (a : ℕ) (s : List ℕ) (h : 1 ≤ length s) where
+  tag-fits : Fits Tag a (length s) (tagItem long a s)
   unfolding tagItem
-  tag-fits = pick-fits Tag a (length s) (leb 2 (length s)) (parsed-fits a (length s) (tag-value _ _)) (fails-fits Tag a (length s) 5 (omega arith))
+  tag-fits = pick-fits Tag a (length s) (leb 2 (length s)) (parsed-fits a (length s) (tag-value _ _ _)) (fails-fits Tag a (length s) 5 (omega arith))
 
   text-fits : Fits TextShape a (length s) (textItem a s)
   unfolding textItem
@@ -62,38 +63,42 @@ module _ (a : ℕ) (s : List ℕ) (h : 1 ≤ length s) where
       pick-fits TextShape a (length s) (allLatin1 (codes s)) (record { starts = (refl, le-refl _); prints = λ _. refl })
       (fails-fits TextShape a (length s) 7 (omega arith))
 
-  shape-fits : (sh : Shape) → Fits sh a (length s) (shapeItem sh a s)
+  shape-fits : (sh : Shape) → Fits sh a (length s) (shapeItem long sh a s)
   shape-fits Bracket = record { starts = (refl, h); prints = λ _. refl }
   shape-fits Tag = tag-fits
   shape-fits Stray = fails-fits Stray a (length s) 5 (omega arith)
   shape-fits TextShape = text-fits
 
-  item-fits : Fits (shapeOf s) a (length s) (itemOf a s)
+  item-fits : Fits (shapeOf s) a (length s) (itemOf long a s)
   unfolding itemOf
   item-fits = shape-fits (shapeOf s)
 
-  pub item-within : Within a (length s) (itemOf a s)
+  pub item-within : Within a (length s) (itemOf long a s)
   item-within = item-fits .starts
 
 -- ---- the items of a message
 
-cuts-honest : (at k : ℕ) (l : List ℕ) → Honest (map itemAt (cuts at k l))
-cuts-honest at k [] = tt
-cuts-honest at zero (b ∷ l) = ((item-fits at (b ∷ take (restLen b l) l) (omega arith)) .starts, cuts-honest (suc at) (restLen b l) l)
-cuts-honest at (suc k) (b ∷ l) = cuts-honest (suc at) k l
+cuts-honest : (c : Config) (at k : ℕ) (l : List ℕ) → Honest (map (itemAt c) (cuts at k l))
+cuts-honest c at k [] = tt
+cuts-honest c at zero (b ∷ l) =
+    ((item-fits (c .«long_times») at (b ∷ take (restLen b l) l) (omega arith)) .starts, cuts-honest c (suc at) (restLen b l) l)
+cuts-honest c at (suc k) (b ∷ l) = cuts-honest c (suc at) k l
 
-abbrev AllRead : List Slice → Type 0
-AllRead ss = (s : Slice) → In s ss → Reads (itemOf (s .start) (s .bytes))
+abbrev AllRead : Config → List Slice → Type 0
+AllRead c ss = (s : Slice) → In s ss → Reads ((itemAt c s) .says)
 
-cuts-printed : (at k : ℕ) (l : List ℕ) → AllRead (cuts at k l) → printedItems (map itemAt (cuts at k l)) ≡ printed (cuts at k l)
-cuts-printed at k [] h = refl
-cuts-printed at zero (b ∷ l) h =
-    rw ((item-fits at (b ∷ take (restLen b l) l) (omega arith)) .prints (h _ here), cuts-printed (suc at) (restLen b l) l (λ s i. h s (there i)))
-cuts-printed at (suc k) (b ∷ l) h = cuts-printed (suc at) k l h
+cuts-printed : (c : Config) (at k : ℕ) (l : List ℕ) → AllRead c (cuts at k l) → printedItems (map (itemAt c) (cuts at k l)) ≡ printed c (cuts at k l)
+cuts-printed c at k [] h = refl
+cuts-printed c at zero (b ∷ l) h =
+    rw (
+      (item-fits (c .«long_times») at (b ∷ take (restLen b l) l) (omega arith)) .prints (h _ here),
+      cuts-printed c (suc at) (restLen b l) l (λ s i. h s (there i)),
+    )
+cuts-printed c at (suc k) (b ∷ l) h = cuts-printed c (suc at) k l h
 
-in-map : {s : Slice} {ss : List Slice} → In s ss → In (itemAt s) (map itemAt ss)
-in-map here = here
-in-map (there i) = there (in-map i)
+in-map : (c : Config) {s : Slice} {ss : List Slice} → In s ss → In (itemAt c s) (map (itemAt c) ss)
+in-map c here = here
+in-map c (there i) = there (in-map c i)
 
 abbrev sliceStarts : List Slice → List ℕ
 sliceStarts ss = map (λ e. e .start) ss
@@ -108,27 +113,27 @@ cuts-rise at k [] = tt
 cuts-rise at zero (c ∷ cs) = cuts-from at (suc at) (restLen c cs) cs (le-refl _)
 cuts-rise at (suc k) (c ∷ cs) = cuts-rise (suc at) k cs
 
-starts-kept : (ss : List Slice) → itemStarts (map itemAt ss) ≡ sliceStarts ss
-starts-kept [] = refl
-starts-kept (x ∷ ss) = rw (starts-kept ss)
+starts-kept : (c : Config) (ss : List Slice) → itemStarts (map (itemAt c) ss) ≡ sliceStarts ss
+starts-kept c [] = refl
+starts-kept c (x ∷ ss) = rw (starts-kept c ss)
 
-module _ (msg : List ℕ) where
-  pub items-honest : Honest (items msg)
+module _ (c : Config) (msg : List ℕ) where
+  pub items-honest : Honest (items c msg)
   unfolding items slices
-  items-honest = cuts-honest 0 0 msg
+  items-honest = cuts-honest c 0 0 msg
 
   -- the slices read if the items do
-  pub slices-read : ((it : Item) → In it (items msg) → Reads (it .says)) → (s : Slice) → In s (slices msg) → Reads (itemOf (s .start) (s .bytes))
+  pub slices-read : ((it : Item) → In it (items c msg) → Reads (it .says)) → (s : Slice) → In s (slices msg) → Reads ((itemAt c s) .says)
   unfolding items
-  slices-read h s i = h (itemAt s) (in-map i)
+  slices-read h s i = h (itemAt c s) (in-map c i)
 
-  pub items-printed : ((s : Slice) → In s (slices msg) → Reads (itemOf (s .start) (s .bytes))) → printedItems (items msg) ≡ printed (slices msg)
+  pub items-printed : ((s : Slice) → In s (slices msg) → Reads ((itemAt c s) .says)) → printedItems (items c msg) ≡ printed c (slices msg)
   unfolding items slices
-  items-printed h = cuts-printed 0 0 msg h
+  items-printed h = cuts-printed c 0 0 msg h
 
-  pub items-rise : Rises (itemStarts (items msg))
+  pub items-rise : Rises (itemStarts (items c msg))
   unfolding items slices
-  items-rise = rw (starts-kept (cuts 0 0 msg)) (cuts-rise 0 0 msg)
+  items-rise = rw (starts-kept c (cuts 0 0 msg)) (cuts-rise 0 0 msg)
 
 -- ---- how many items a message has
 
@@ -168,32 +173,32 @@ okay-le (Is v) = omega arith
 okay-le (Fails n) = omega arith
 
 -- a bracket alone fails
-lone-open : (at : ℕ) → okay (itemOf at (91 ∷ [])) ≡ 0
+lone-open : (long : Bool) (at : ℕ) → okay (itemOf long at (91 ∷ [])) ≡ 0
 unfolding itemOf shapeOf isPair lastByte
-lone-open at = refl
+lone-open long at = refl
 
-lone-close : (at : ℕ) → okay (itemOf at (93 ∷ [])) ≡ 0
+lone-close : (long : Bool) (at : ℕ) → okay (itemOf long at (93 ∷ [])) ≡ 0
 unfolding itemOf shapeOf isPair lastByte
-lone-close at = refl
+lone-close long at = refl
 
-bracket-okay : (at b m : ℕ) (l : List ℕ) → okay (itemOf at (b ∷ [])) ≡ 0 → okay (itemOf at (b ∷ take m l)) ≤ m
-bracket-okay at b zero l e = omega arith
-bracket-okay at b (suc m) l e = omega (arith, okay-le (itemOf at (b ∷ take (suc m) l)))
+bracket-okay : (long : Bool) (at b m : ℕ) (l : List ℕ) → okay (itemOf long at (b ∷ [])) ≡ 0 → okay (itemOf long at (b ∷ take m l)) ≤ m
+bracket-okay long at b zero l e = omega arith
+bracket-okay long at b (suc m) l e = omega (arith, okay-le (itemOf long at (b ∷ take (suc m) l)))
 
-module _ (at b : ℕ) (l : List ℕ) (n : ℕ) (f : Few n (length l - restLen b l) (restLen b l) l) where
+module _ (long : Bool) (at b : ℕ) (l : List ℕ) (n : ℕ) (f : Few n (length l - restLen b l) (restLen b l) l) where
   abbrev first-okay : ℕ
-  first-okay = okay (itemOf at (b ∷ take (restLen b l) l))
+  first-okay = okay (itemOf long at (b ∷ take (restLen b l) l))
 
-  bracket-few : okay (itemOf at (b ∷ [])) ≡ 0 → Few (first-okay + n) (suc (length l)) 0 (b ∷ l)
+  bracket-few : okay (itemOf long at (b ∷ [])) ≡ 0 → Few (first-okay + n) (suc (length l)) 0 (b ∷ l)
   bracket-few e =
       let h : 3 * (first-okay + n) ≤ 2 * suc (length l) =
-      omega (arith, rest-le b l, bracket-okay at b (restLen b l) l e, okay-le (itemOf at (b ∷ take (restLen b l) l)), f .upper) in
+      omega (arith, rest-le b l, bracket-okay long at b (restLen b l) l e, okay-le (itemOf long at (b ∷ take (restLen b l) l)), f .upper) in
       record { upper = omega arith; strict = λ t. h }
 
   plain-few : (b ≡ 91 → ⊥) → (b ≡ 93 → ⊥) → Few (first-okay + n) (suc (length l)) 0 (b ∷ l)
   plain-few p q =
       record {
-        upper = omega (arith, okay-le (itemOf at (b ∷ take (restLen b l) l)), f .strict (plain-next b l p q));
+        upper = omega (arith, okay-le (itemOf long at (b ∷ take (restLen b l) l)), f .strict (plain-next b l p q));
         strict = λ t. absurd (q (t (omega arith) p));
       }
 
@@ -201,18 +206,19 @@ module _ (at b : ℕ) (l : List ℕ) (n : ℕ) (f : Few n (length l - restLen b 
   head-few = look (eqb b 91) (eqb b 93) refl refl
     where
       look : (t u : Bool) → eqb b 91 ≡ t → eqb b 93 ≡ u → Few (first-okay + n) (suc (length l)) 0 (b ∷ l)
-      look true u p q = bracket-few (rw (eqb-true b 91 p) (lone-open at))
-      look false true p q = bracket-few (rw (eqb-true b 93 q) (lone-close at))
+      look true u p q = bracket-few (rw (eqb-true b 91 p) (lone-open long at))
+      look false true p q = bracket-few (rw (eqb-true b 93 q) (lone-close long at))
       look false false p q = plain-few (eqb-false b 91 p) (eqb-false b 93 q)
 
-few : (at k : ℕ) (l : List ℕ) → Few (okays (map itemAt (cuts at k l))) (length l - k) k l
-few at k [] = record { upper = omega arith; strict = λ t. omega arith }
-few at zero (b ∷ l) =
-    let n : ℕ = okays (map itemAt (cuts (suc at) (restLen b l) l)) in
-    let f : Few (okay (itemOf at (b ∷ take (restLen b l) l)) + n) (suc (length l)) 0 (b ∷ l) = head-few at b l n (few (suc at) (restLen b l) l) in
+few : (c : Config) (at k : ℕ) (l : List ℕ) → Few (okays (map (itemAt c) (cuts at k l))) (length l - k) k l
+few c at k [] = record { upper = omega arith; strict = λ t. omega arith }
+few c at zero (b ∷ l) =
+    let n : ℕ = okays (map (itemAt c) (cuts (suc at) (restLen b l) l)) in
+    let f : Few (okay (itemOf (c .«long_times») at (b ∷ take (restLen b l) l)) + n) (suc (length l)) 0 (b ∷ l) =
+    head-few (c .«long_times») at b l n (few c (suc at) (restLen b l) l) in
     record { upper = omega (arith, f .upper); strict = λ t. omega (arith, f .strict t) }
-few at (suc k) (b ∷ l) =
-    let f : Few (okays (map itemAt (cuts (suc at) k l))) (length l - k) k l = few (suc at) k l in
+few c at (suc k) (b ∷ l) =
+    let f : Few (okays (map (itemAt c) (cuts (suc at) k l))) (length l - k) k l = few c (suc at) k l in
     record { upper = omega (arith, f .upper); strict = λ t. omega (arith, f .strict (λ h. t (omega arith))) }
 
 -- ---- the items lie within the message
@@ -221,17 +227,17 @@ abbrev pub AllIn : ℕ → List Item → Type 0
 AllIn top [] = Unit {0}
 AllIn top (it ∷ its) = (it .start + it .len ≤ top) × AllIn top its
 
-cuts-in : (top at k : ℕ) (l : List ℕ) → at + length l ≤ top → AllIn top (map itemAt (cuts at k l))
-cuts-in top at k [] h = tt
-cuts-in top at zero (b ∷ l) h =
-    (omega (arith, length-take (restLen b l) l), cuts-in top (suc at) (restLen b l) l (omega arith))
-cuts-in top at (suc k) (b ∷ l) h = cuts-in top (suc at) k l (omega arith)
+cuts-in : (c : Config) (top at k : ℕ) (l : List ℕ) → at + length l ≤ top → AllIn top (map (itemAt c) (cuts at k l))
+cuts-in c top at k [] h = tt
+cuts-in c top at zero (b ∷ l) h =
+    (omega (arith, length-take (restLen b l) l), cuts-in c top (suc at) (restLen b l) l (omega arith))
+cuts-in c top at (suc k) (b ∷ l) h = cuts-in c top (suc at) k l (omega arith)
 
-module _ (msg : List ℕ) where
-  pub items-few : 3 * okays (items msg) ≤ 2 * length msg + 1
+module _ (c : Config) (msg : List ℕ) where
+  pub items-few : 3 * okays (items c msg) ≤ 2 * length msg + 1
   unfolding items slices
-  items-few = omega (arith, (few 0 0 msg) .upper)
+  items-few = omega (arith, (few c 0 0 msg) .upper)
 
-  pub items-in : AllIn (length msg) (items msg)
+  pub items-in : AllIn (length msg) (items c msg)
   unfolding items slices
-  items-in = cuts-in (length msg) 0 0 msg (omega arith)
+  items-in = cuts-in c (length msg) 0 0 msg (omega arith)

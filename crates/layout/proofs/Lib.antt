@@ -4,6 +4,7 @@ pub mod PassLaws
 pub mod Cover
 pub mod RectLaws
 pub mod Tags
+pub mod Times
 pub mod Items
 pub mod Checks
 pub mod Pages

@@ -10,14 +10,13 @@ use mathlib.Core.List.{List, [], _∷_, _++_, map, append-assoc}
 use lib.Dec.{eqb}
 use Rattle.base.specs.Pick.{pick}
 use Rattle.token.specs.Token.{Slice, slices}
-use Rattle.reading.specs.Reading.{itemOf}
 use Rattle.records.specs.declared.Config.{Config}
 use Rattle.sign.specs.Sign.{Font}
 use Rattle.refusal.specs.declared.Refusal.{Refusal}
 use Rattle.layout.specs.declared.Span.{Span}
 use Rattle.layout.specs.declared.Rect.{Rect}
 use Rattle.layout.specs.declared.Entry.{Entry}
-use Rattle.layout.specs.Types.{Item, items, Board}
+use Rattle.layout.specs.Types.{Item, itemAt, items, Board}
 use Rattle.font.specs.Table.{fontNumbered}
 use Rattle.font.specs.declared.Measure.{Measure}
 use Rattle.font.specs.declared.Measure.the-variants.{Width, Missing}
@@ -323,30 +322,30 @@ events-read {c = c} {its = its} (begun r) u n =
 
 -- demand 3 of the pages of a message
 pub record Told (c : Config) (fs : List Font) (msg : List ℕ) (qs : List Span) : Type 0 where
-  pub reads : (s : Slice) → In s (slices msg) → Reads (itemOf (s .start) (s .bytes))
-  pub printing : printedRecords qs ≡ printed (slices msg)
+  pub reads : (s : Slice) → In s (slices msg) → Reads ((itemAt c s) .says)
+  pub printing : printedRecords qs ≡ printed c (slices msg)
   pub rising : Rises (map (λ q. q .start) qs)
-  pub listed : qs ≡ placed (boardOf msg c fs) (events c (items msg))
-  pub passes : (r : Rect) (es : List Entry) → In (pass r es) (events c (items msg)) → Stands c fs msg r es
+  pub listed : qs ≡ placed (boardOf msg c fs) (events c (items c msg))
+  pub passes : (r : Rect) (es : List Entry) → In (pass r es) (events c (items c msg)) → Stands c fs msg r es
   pub inside : (q : Span) → In q qs → Across (rectAtPlace c msg (q .start)) q
   pub inside-down : (q : Span) → In q qs → (justAtPlace c msg (q .start) ≡ 3 → Divides c fs) → Down (rectAtPlace c msg (q .start)) q
 
-pub told : (c : Config) (fs : List Font) (msg : List ℕ) → NoRefusal (pages (boardOf msg c fs) (items msg))
-    → Told c fs msg (records (pages (boardOf msg c fs) (items msg)))
+pub told : (c : Config) (fs : List Font) (msg : List ℕ) → NoRefusal (pages (boardOf msg c fs) (items c msg))
+    → Told c fs msg (records (pages (boardOf msg c fs) (items c msg)))
 unfolding pages boardOf
 told c fs msg h =
     let s : Board = boardOf msg c fs in
-    let its : List Item = items msg in
+    let its : List Item = items c msg in
     let evs : List Event = events c its in
     let o : Scan = opening c its in
     let w : Walked s evs [] (pages s its) = walked s evs (o .on) (o .off) [] 0 h in
-    let k : Read c its evs = events-read (events-as c its (items-honest msg)) (items-rise msg) (w .runs) in
+    let k : Read c its evs = events-read (events-as c its (items-honest c msg)) (items-rise c msg) (w .runs) in
     let f : (r : Rect) (es : List Entry) → In (pass r es) evs → Stands c fs msg r es = λ r es i. each-fine c fs msg evs (k .grid) (k .known) (w .fine) i in
-    let reads : (s : Slice) → In s (slices msg) → Reads (itemOf (s .start) (s .bytes)) = slices-read msg (k .cover .reads) in
+    let reads : (s : Slice) → In s (slices msg) → Reads ((itemAt c s) .says) = slices-read c msg (k .cover .reads) in
     record {
       reads = reads;
-      printing = ap printedRecords (w .listed) ∙ placed-printed s evs ∙ ap printedEntries (k .cover .all) ∙ k .cover .prints ∙ items-printed msg reads;
-      rising = rw (w .listed, placed-starts s evs, k .cover .all) (part-rises (k .cover .order) (items-rise msg));
+      printing = ap printedRecords (w .listed) ∙ placed-printed s evs ∙ ap printedEntries (k .cover .all) ∙ k .cover .prints ∙ items-printed c msg reads;
+      rising = rw (w .listed, placed-starts s evs, k .cover .all) (part-rises (k .cover .order) (items-rise c msg));
       listed = w .listed;
       passes = f;
       inside = rw (w .listed) (record-across c fs msg evs f);

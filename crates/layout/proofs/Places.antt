@@ -278,20 +278,21 @@ module _ (top : ℕ) where
   numbered-in c (off d ∷ l) (suc n) h = numbered-in (suc c) l n h
   numbered-in c (refused r ∷ l) (suc n) h = h .0
 
-pages-in : (msg : List ℕ) (s : Board) → LateFaults s → Pages (length msg) (pages s (items msg))
+pages-in : (msg : List ℕ) (s : Board) → LateFaults s → Pages (length msg) (pages s (items (s .config) msg))
 unfolding pages
 pages-in msg s m =
-    let o : Scan = opening (s .config) (items msg) in
-    let h : Honest (items msg) = items-honest msg in
-    walk-in (length msg) s m (events (s .config) (items msg)) (o .on) (o .off) [] 0
-    (events-in (length msg) (events-as (s .config) (items msg) h) h (items-in msg))
+    let o : Scan = opening (s .config) (items (s .config) msg) in
+    let h : Honest (items (s .config) msg) = items-honest (s .config) msg in
+    walk-in (length msg) s m (events (s .config) (items (s .config) msg)) (o .on) (o .off) [] 0
+    (events-in (length msg) (events-as (s .config) (items (s .config) msg) h) h (items-in (s .config) msg))
 
-answers-in : (c : Config) (fs : List Font) (msg : List ℕ) (n : ℕ) → Placed (length msg) ((numbered 0 (pages (boardOf msg c fs) (items msg)) n) .answer)
-answers-in c fs msg n = numbered-in (length msg) 0 (pages (boardOf msg c fs) (items msg)) n (pages-in msg (boardOf msg c fs) (board-late msg c fs))
+answers-in : (c : Config) (fs : List Font) (msg : List ℕ) (n : ℕ) → Placed (length msg) ((numbered 0 (pages (boardOf msg c fs) (items c msg)) n) .answer)
+unfolding boardOf
+answers-in c fs msg n = numbered-in (length msg) 0 (pages (boardOf msg c fs) (items c msg)) n (pages-in msg (boardOf msg c fs) (board-late msg c fs))
 
 -- ---- 1 to 3
 
-answers-late : (c : Config) (fs : List Font) (msg : List ℕ) (n : ℕ) (x : Refusal) → (numbered 0 (pages (boardOf msg c fs) (items msg)) n) .answer ≡ Refused x
+answers-late : (c : Config) (fs : List Font) (msg : List ℕ) (n : ℕ) (x : Refusal) → (numbered 0 (pages (boardOf msg c fs) (items c msg)) n) .answer ≡ Refused x
     → Inside (length msg) x
 answers-late c fs msg n x e = rw e at (answers-in c fs msg n)
 

@@ -84,23 +84,25 @@ numbered-small top c (off d ∷ l) (suc n) h = numbered-small top (suc c) l n h
 numbered-small top c (refused r ∷ l) (suc n) h = omega arith
 
 -- "records always fit": a page has at most 1,400
-pub pages-small : (msg : List ℕ) (s : Board) → length msg ≤ 2048 → (n : ℕ) → length ((numbered 0 (pages s (items msg)) n) .written) ≤ 1400
+pub pages-small : (msg : List ℕ) (s : Board) → length msg ≤ 2048 → (n : ℕ) → length ((numbered 0 (pages s (items (s .config) msg)) n) .written) ≤ 1400
 unfolding pages
 pages-small msg s h n =
-    let o : Scan = opening (s .config) (items msg) in
-    numbered-small 1400 0 (pages s (items msg)) n
-    (walk-small 1400 s (events (s .config) (items msg)) (o .on) (o .off) [] 0
-    (omega (arith, events-few (events-as (s .config) (items msg) (items-honest msg)), items-few msg)))
+    let o : Scan = opening (s .config) (items (s .config) msg) in
+    numbered-small 1400 0 (pages s (items (s .config) msg)) n
+    (walk-small 1400 s (events (s .config) (items (s .config) msg)) (o .on) (o .off) [] 0
+    (omega (arith, events-few (events-as (s .config) (items (s .config) msg) (items-honest (s .config) msg)), items-few (s .config) msg)))
 
 -- ---- the slice after a call
 
 module _ (file msg : List ℕ) (n room : ℕ) where
   written-small : length ((resultOn (admission file msg) msg n room) .written) ≤ 1400
+  unfolding boardOf
   written-small =
       any-result msg n room (λ r. length (r .written) ≤ 1400) (λ x. omega arith) (admission file msg)
       (λ c fs e q. pages-small msg (boardOf msg c fs) ((admits e) .small) n)
 
   written-room : length ((resultOn (admission file msg) msg n room) .written) ≤ room
+  unfolding boardOf
   written-room =
       any-result msg n room (λ r. length (r .written) ≤ room) (λ x. omega arith) (admission file msg)
       (λ c fs e q. omega (arith, pages-small msg (boardOf msg c fs) ((admits e) .small) n))
@@ -131,7 +133,7 @@ numbered-quiet c (refused r ∷ l) (suc n) x e = refl
 
 result-quiet : (file msg : List ℕ) (n room : ℕ) → Quiet (resultOn (admission file msg) msg n room)
 result-quiet file msg n room =
-    any-result msg n room Quiet (λ y x e. refl) (admission file msg) (λ c fs p q. numbered-quiet 0 (pages (boardOf msg c fs) (items msg)) n)
+    any-result msg n room Quiet (λ y x e. refl) (admission file msg) (λ c fs p q. numbered-quiet 0 (pages (boardOf msg c fs) (items c msg)) n)
 
 pub unchanged : (file msg : List ℕ) (n : ℕ) (lent : List Span) (x : Refusal) → listing file msg n lent ≡ Refused x → after file msg n lent ≡ lent
 unfolding after listing result
@@ -152,7 +154,7 @@ numbered-counts c (off a ∷ l) (suc n) d k e = numbered-counts (suc c) l n d k 
 numbered-counts c (refused r ∷ l) (suc n) d k e = absurd (let z : _≡_ {A = ℕ} 0 1 = cc in omega arith)
 
 pub fits : (file msg : List ℕ) (n : ℕ) (lent : List Span) (d k : ℕ) → listing file msg n lent ≡ On d k → k ≤ 1400
-unfolding listing result
+unfolding listing result boardOf
 fits file msg n lent d k =
     any-result msg n (length lent) (λ r. r .answer ≡ On d k → k ≤ 1400) (λ x e. absurd (let z : _≡_ {A = ℕ} 0 1 = cc in omega arith)) (admission file msg)
-    (λ c fs p q e. omega (arith, pages-small msg (boardOf msg c fs) ((admits p) .small) n, numbered-counts 0 (pages (boardOf msg c fs) (items msg)) n d k e))
+    (λ c fs p q e. omega (arith, pages-small msg (boardOf msg c fs) ((admits p) .small) n, numbered-counts 0 (pages (boardOf msg c fs) (items c msg)) n d k e))

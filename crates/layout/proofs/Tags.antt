@@ -99,7 +99,7 @@ moved-is end l f = simp (pick-out (λ m. moved m Bad f), number-out (λ m. moved
 moved-tag : (end : ℕ) (l : List ℕ) (f : Movement → Parsed) → ((t : Movement) → TagLike (f t)) → TagLike (moved (movementOf end l) Bad f)
 moved-tag end l f h = rw (moved-is end l f) (search (tags, h) depth 12)
 
-module _ (end : ℕ) (p : List ℕ) where
+module _ (long : Bool) (end : ℕ) (p : List ℕ) where
   mode-tag : (m : MovingTextMode) (l : List ℕ) → TagLike (movingTextMode end m l)
   unfolding movingTextMode
   mode-tag m l = search (tags, moved-tag) depth 12
@@ -128,7 +128,7 @@ module _ (end : ℕ) (p : List ℕ) where
   unfolding justificationPage
   justificationPage-tag = search (tags) depth 12
 
-  pageTime-tag : TagLike (pageTime p)
+  pageTime-tag : TagLike (pageTime long p)
   unfolding pageTime
   pageTime-tag = search (tags) depth 12
 
@@ -228,10 +228,10 @@ module _ (end : ℕ) (p : List ℕ) where
     movingText-tag,
   )
 
-  name-tag : (a b c : ℕ) → TagLike (byName (nameBy a b c) end p)
+  name-tag : (a b c : ℕ) → TagLike (byName long (nameBy a b c) end p)
   unfolding nameBy firstName endName
-  name-tag a b c = simp (pick-out (λ n. byName n end p)) (search (pick-tag, parsers, unsupported) depth 40)
+  name-tag a b c = simp (pick-out (λ n. byName long n end p)) (search (pick-tag, parsers, unsupported) depth 40)
 
-pub tag-value : (end : ℕ) (l : List ℕ) → TagLike (tagValue end l)
+pub tag-value : (long : Bool) (end : ℕ) (l : List ℕ) → TagLike (tagValue long end l)
 unfolding tagValue nameOf
-tag-value end l = name-tag end (drop (nameLen (nameOf l)) l) _ _ _
+tag-value long end l = name-tag long end (drop (nameLen (nameOf l)) l) _ _ _

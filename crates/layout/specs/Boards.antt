@@ -212,6 +212,15 @@ pub record Boards : Type 0 where
   pub no-capitals : board boardP "ab" 1 ≡ refused 12 0 2 97 ∷ []
   -- a font that has a, 3 wide, and A: "aA" is 3 + 2 + 5 wide
   pub own-small : board (boardWith (option 4) ++ character 7 97 3) "aA" 1 ≡ lit 30 1 (text 0 2 0 0 10 0 0 ∷ []) ∷ []
+  -- A5: with kind 5 "[pt] takes 0 to 65,535 for each time", a missing part is kind 1's; without it 6 "still" comes
+  pub long-times : board (boardWith (option 5)) "[pt600o65535]A" 3 ≡ lit 600 1 (text 13 1 0 0 5 0 0 ∷ []) ∷ off 65535 ∷ end 2 ∷ []
+  pub too-long-time : board (boardWith (option 5)) "[pt65536]A" 1 ≡ refused 6 0 9 0 ∷ []
+  pub no-off : board (boardWith (option 5)) "[pto0]A" 2 ≡ lit 30 1 (text 6 1 0 0 5 0 0 ∷ []) ∷ end 1 ∷ []
+  pub short-time : board boardP "[pt256]A" 1 ≡ refused 6 0 7 0 ∷ []
+  pub short-times : board boardP "[pt255o255]A" 3 ≡ lit 255 1 (text 11 1 0 0 5 0 0 ∷ []) ∷ off 255 ∷ end 2 ∷ []
+  -- kinds 4 and 5: both; in the other order, 1 at kind 4's offset
+  pub both-options : board (boardWith (option 4 ++ option 5)) "[pt256]a" 1 ≡ lit 256 1 (text 7 1 0 0 5 0 0 ∷ []) ∷ []
+  pub options-back : board (boardWith (option 5 ++ option 4)) "A" 1 ≡ refused 1 23 0 0 ∷ []
   -- kind 4 twice, and after a font: 1 at its offset
   pub option-twice : board (boardWith (option 4 ++ option 4)) "A" 1 ≡ refused 1 23 0 0 ∷ []
   pub option-late : board (boardP ++ option 4) "A" 1 ≡ refused 1 64 0 0 ∷ []
@@ -266,6 +275,13 @@ boards =
       neither-code = refl;
       no-capitals = refl;
       own-small = refl;
+      long-times = refl;
+      too-long-time = refl;
+      no-off = refl;
+      short-time = refl;
+      short-times = refl;
+      both-options = refl;
+      options-back = refl;
       option-twice = refl;
       option-late = refl;
     }

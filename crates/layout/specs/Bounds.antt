@@ -2,16 +2,18 @@
 use Prim.Native.Nat.{ℕ, suc, _+_, _*_, _≤_, _<_}
 use mathlib.Core.Path.{_≡_}
 use mathlib.Core.List.{List, [], _∷_, map}
+use mathlib.Core.Bool.{false}
 use lib.Dec.{eqb}
 use lib.ListN.{length}
 use Rattle.base.specs.Pick.{pick}
+use Rattle.token.specs.Token.{Slice, slices}
+use Rattle.reading.specs.Reading.{itemOf}
 use Rattle.refusal.specs.declared.Refusal.{Refusal}
 use Rattle.records.specs.Record.{Piece, Record, CutShort, pieces}
 use Rattle.sign.specs.Sign.{RefusedAt, signFile}
 use Rattle.layout.specs.declared.Span.{Span}
 use Rattle.layout.specs.declared.Answer.{Answer}
 use Rattle.layout.specs.declared.Answer.the-variants.{On, Off, End, Refused}
-use Rattle.layout.specs.Types.{Item, items}
 use Rattle.layout.specs.Listing.{listing, after}
 use Rattle.layout.specs.Demand.{Role, text, hexadecimal, rectangle, pageJust, newPage, other, roleIn, In, Shows}
 
@@ -24,9 +26,10 @@ breaks (pageJust j) = 0
 breaks newPage = 1
 breaks other = 0
 
-abbrev pub pageBreaks : List Item → ℕ
+-- the [np] of a message: whether long times hold makes no difference to them
+abbrev pub pageBreaks : List Slice → ℕ
 pageBreaks [] = 0
-pageBreaks (it ∷ its) = breaks (roleIn (it .says)) + pageBreaks its
+pageBreaks (s ∷ ss) = breaks (roleIn (itemOf false (s .start) (s .bytes))) + pageBreaks ss
 
 -- the offsets of a sign file's records, "one cut short included"
 abbrev pub offset : Piece → ℕ
@@ -52,7 +55,7 @@ pub record StopsBy (file msg : List ℕ) (lent : ℕ → List Span) (top : ℕ) 
 
 pub record Bounded (file msg : List ℕ) : Type 0 where
   -- "A message has at most 2 × (number of [np] + 1) answers"
-  pub answers : (lent : ℕ → List Span) → StopsBy file msg lent (2 * suc (pageBreaks (items msg)))
+  pub answers : (lent : ℕ → List Span) → StopsBy file msg lent (2 * suc (pageBreaks (slices msg)))
   -- a page has at most 1,400 records: every slice that is not refused has room
   pub fits : (n : ℕ) (lent : List Span) (d k : ℕ) → listing file msg n lent ≡ On d k → k ≤ 1400
   -- the slice keeps its length

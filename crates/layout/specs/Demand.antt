@@ -17,7 +17,6 @@ use Rattle.value.specs.declared.Value.{Value}
 use Rattle.value.specs.declared.Value.the-variants.{ColorBackground, ColorForeground, ColorRectangle, Field, Flash, FlashEnd, Font, Graphic, HexadecimalCharacter, JustificationLine, JustificationPage, ManufacturerSpecific, ManufacturerSpecificEnd, MovingText, NewLine, NewPage, PageBackground, PageTime, SpacingCharacter, SpacingCharacterEnd, Text, TextRectangle}
 use Rattle.reading.specs.declared.Said.{Said}
 use Rattle.reading.specs.declared.Said.the-variants.{Is, Fails}
-use Rattle.reading.specs.Reading.{itemOf}
 use Rattle.records.specs.declared.Config.{Config}
 use Rattle.sign.specs.Sign.{Font as SignFont, Accepted, signFile}
 use Rattle.layout.specs.declared.Span.{Span}
@@ -25,7 +24,7 @@ use Rattle.layout.specs.declared.Answer.{Answer}
 use Rattle.layout.specs.declared.Answer.the-variants.{On, Off, End, Refused}
 use Rattle.layout.specs.declared.Rect.{Rect}
 use Rattle.layout.specs.declared.Entry.{Entry}
-use Rattle.layout.specs.Types.{Item, items, unwrapOr, Board}
+use Rattle.layout.specs.Types.{Item, itemAt, items, unwrapOr, Board}
 use Rattle.font.specs.declared.Measure.the-variants.{Width}
 use Rattle.font.specs.Table.{fontNumbered}
 use Rattle.font.specs.Character.{lettersOf}
@@ -143,9 +142,10 @@ printedSlice x Tag start len = printedTag (roleIn x) start len
 printedSlice x Stray start len = []
 printedSlice x TextShape start len = (start, len) ∷ []
 
-abbrev pub printed : List Slice → List (ℕ × ℕ)
-printed [] = []
-printed (s ∷ ss) = printedSlice (itemOf (s .start) (s .bytes)) (shapeOf (s .bytes)) (s .start) (length (s .bytes)) ++ printed ss
+-- as the sign reads them
+abbrev pub printed : Config → List Slice → List (ℕ × ℕ)
+printed c [] = []
+printed c (s ∷ ss) = printedSlice ((itemAt c s) .says) (shapeOf (s .bytes)) (s .start) (length (s .bytes)) ++ printed c ss
 
 -- start and length of "the records of kinds 0 and 1"
 abbrev pub printedBy : ℕ → ℕ → ℕ → List (ℕ × ℕ)
@@ -175,7 +175,7 @@ rectAfter s r other = r
 
 -- the text rectangle at a place of the message: "the last [tr] before it on its page .. or else the whole sign"
 abbrev pub rectAtPlace : Config → List ℕ → ℕ → Rect
-rectAtPlace c msg n = atPlace (rectAfter c) (whole c) (items msg) n
+rectAtPlace c msg n = atPlace (rectAfter c) (whole c) (items c msg) n
 
 -- the page justification after a slice (2 top, 3 middle, 4 bottom): that of a [jp], the sign's where it has no number; else as before, for with a new
 -- page "font, character spacing and justification carry on"
@@ -189,7 +189,7 @@ justAfter s j other = j
 
 -- the page justification at a place of the message: that of the last [jp] before it, or else the sign's
 abbrev pub justAtPlace : Config → List ℕ → ℕ → ℕ
-justAtPlace c msg n = atPlace (justAfter c) (c .«page_just») (items msg) n
+justAtPlace c msg n = atPlace (justAfter c) (c .«page_just») (items c msg) n
 
 -- "Inside: x is at least the rectangle's x - 1, x + width at most the rectangle's x - 1 + its width"
 pub record Across (r : Rect) (q : Span) : Type 0 where
@@ -270,13 +270,13 @@ pub record Demand3 (file msg : List ℕ) (lent : ℕ → List Span) (N : ℕ) : 
   -- "end with the count of answers"
   pub ends : listing file msg N (lent N) ≡ End N
   -- no slice of the message fails
-  pub reads : (s : Slice) → In s (slices msg) → Reads (itemOf (s .start) (s .bytes))
+  pub reads : (s : Slice) → In s (slices msg) → Reads ((itemAt config s) .says)
   -- "each printed character stands in exactly one listed span, and the spans come in the message's order"
-  pub printing : printedRecords (listed file msg lent 0 N) ≡ printed (slices msg)
+  pub printing : printedRecords (listed file msg lent 0 N) ≡ printed config (slices msg)
   pub rising : Rises (map (λ q. q .start) (listed file msg lent 0 N))
   -- the records are those of the message's spans, pass by pass
-  pub spans-listed : listed file msg lent 0 N ≡ placed (boardOf msg config fonts) (events config (items msg))
-  pub passes : (r : Rect) (es : List Entry) → In (pass r es) (events config (items msg)) → Stands config fonts msg r es
+  pub spans-listed : listed file msg lent 0 N ≡ placed (boardOf msg config fonts) (events config (items config msg))
+  pub passes : (r : Rect) (es : List Entry) → In (pass r es) (events config (items config msg)) → Stands config fonts msg r es
   -- and so "each span lies inside its text rectangle on all four sides"; "For the top and bottom of middle placing this holds if the character height
   -- is 0 or divides every font height"
   pub inside : (q : Span) → In q (listed file msg lent 0 N) → Across (rectAtPlace config msg (q .start)) q

@@ -85,7 +85,7 @@ numbered c (p ∷ l) (suc n) = past p (numbered (suc c) l n)
 -- "In checking order": 1 to 3 are every call's, `admission`; then 4, "the slice has fewer than 1,400 records"
 abbrev pub resultOn : Admission → List ℕ → ℕ → ℕ → Result
 resultOn (denied r) msg n room = said (Refused r)
-resultOn (admitted c fs) msg n room = pick (ltb room 1400) (said (Refused (refusal 4 0 0 0))) (numbered 0 (pages (boardOf msg c fs) (items msg)) n)
+resultOn (admitted c fs) msg n room = pick (ltb room 1400) (said (Refused (refusal 4 0 0 0))) (numbered 0 (pages (boardOf msg c fs) (items c msg)) n)
 
 -- the call: sign file, message, answer number from 0, and the records of the lent slice
 unfoldable pub result : List ℕ → List ℕ → ℕ → ℕ → Result

@@ -19,16 +19,17 @@ pub record Item : Type 0 where
   pub len : ℕ
   pub says : Said
 
-abbrev pub itemAt : Slice → Item
-itemAt s = record { start = s .start; len = length (s .bytes); says = itemOf (s .start) (s .bytes) }
+-- read as the sign has it: its times may be long (document 02, A5)
+abbrev pub itemAt : Config → Slice → Item
+itemAt c s = record { start = s .start; len = length (s .bytes); says = itemOf (c .«long_times») (s .start) (s .bytes) }
 
 -- where it stands; what a value does looks at no more of its item
 abbrev pub placeOf : Item → Place
 placeOf it = record { start = it .start; len = it .len }
 
--- the items of a message: its slices, read
-unfoldable pub items : List ℕ → List Item
-items msg = map itemAt (slices msg)
+-- the items of a message on a sign: its slices, read
+unfoldable pub items : Config → List ℕ → List Item
+items c msg = map (itemAt c) (slices msg)
 
 -- the number of an option, or d where there is none
 abbrev pub unwrapOr : OptNum → ℕ → ℕ

@@ -1,5 +1,6 @@
 // Prints what a message on standard input says, slice by slice: start, length, the value's code and its eight numbers (tests/FORMAT.md).
 // A slice that is refused prints "refused", number, start, length and detail. The last line is "end" with the message's length.
+// Long times hold if sign.bin in the current folder is a sign file that has them.
 use libc::STDIN_FILENO;
 use libc::STDOUT_FILENO;
 use reading::Reading;
@@ -39,8 +40,8 @@ fn print_refusal(r: Refusal) {
 }
 
 // Prints what stands at a place. The place of the next slice, or the end where the message is refused as a whole.
-fn print_at(msg: &[u8], at: usize) -> usize {
-    let r = reading::read(msg, at);
+fn print_at(msg: &[u8], at: usize, long: bool) -> usize {
+    let r = reading::read(msg, at, long);
     match r {
         Reading::Slice(p, v) => {
             print_slice(p, v);
@@ -58,10 +59,10 @@ fn print_at(msg: &[u8], at: usize) -> usize {
 }
 
 // Prints every slice of a message.
-fn print_all(msg: &[u8]) {
+fn print_all(msg: &[u8], long: bool) {
     let mut at = 0;
     while at < msg.len() {
-        let next = print_at(msg, at);
+        let next = print_at(msg, at, long);
         if next <= at {
             return;
         }
@@ -72,8 +73,17 @@ fn print_all(msg: &[u8]) {
     io::write_all(STDOUT_FILENO, b"\n");
 }
 
+// Whether the sign file has long times; one that is refused has none.
+fn long_times() -> bool {
+    let mut buf = io::large_buffer();
+    let n = signbin::load(&mut buf);
+    let table = sign::read_sign(&buf[..n]);
+    let config = table.config;
+    config.long_times
+}
+
 fn main() {
     let mut buf = [0u8; 2049];
     let n = io::read_full(STDIN_FILENO, &mut buf);
-    print_all(&buf[..n]);
+    print_all(&buf[..n], long_times());
 }

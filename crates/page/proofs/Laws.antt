@@ -103,27 +103,27 @@ module _ (c : Config) (a b at : ℕ) (l : List ℕ) (h : at < length l) (r : ℕ
   slice : Slice
   slice = record { start = at; bytes = take (r - at) (drop at l) }
 
-  from-next : itemsFrom at l ≡ itemAt slice ∷ itemsFrom r l
+  from-next : itemsFrom c at l ≡ itemAt c slice ∷ itemsFrom c r l
   unfolding itemsFrom slice
-  from-next = ap (map itemAt) (cuts-next at l h r e)
+  from-next = ap (map (itemAt c)) (cuts-next at l h r e)
 
   mark : Mark
-  mark = markItem (c .tags) (itemOf at (take (r - at) (drop at l)))
+  mark = markItem (c .tags) (itemOf (c .«long_times») at (take (r - at) (drop at l)))
 
   later : ℕ → ℕ → Scan
-  later x y = scan c x y (itemsFrom r l)
+  later x y = scan c x y (itemsFrom c r l)
 
-  stop-here : (s : PageScan) → t ≡ Stop s → told s ≡ scan c a b (itemsFrom at l)
+  stop-here : (s : PageScan) → t ≡ Stop s → told s ≡ scan c a b (itemsFrom c at l)
   unfolding lookAt slice mark later
-  stop-here s p = stop-mark c a b (itemAt slice) later mark s (sym f ∙ p) ∙ ap (scan c a b) (sym from-next)
+  stop-here s p = stop-mark c a b (itemAt c slice) later mark s (sym f ∙ p) ∙ ap (scan c a b) (sym from-next)
 
-  on-here : (p q : ℕ) → t ≡ On p q → scan c p q (itemsFrom r l) ≡ scan c a b (itemsFrom at l)
+  on-here : (p q : ℕ) → t ≡ On p q → scan c p q (itemsFrom c r l) ≡ scan c a b (itemsFrom c at l)
   unfolding lookAt slice mark later
-  on-here p q k = on-mark c a b (itemAt slice) later mark p q (sym f ∙ k) ∙ ap (scan c a b) (sym from-next)
+  on-here p q k = on-mark c a b (itemAt c slice) later mark p q (sym f ∙ k) ∙ ap (scan c a b) (sym from-next)
 
 -- the scan from a place on, with its times there, is the scan of the page
 pub record Scanned (c : Config) (on off from : ℕ) (msg : List ℕ) (a b at : ℕ) : Type 0 where
-  pub whole : scan c a b (itemsFrom at msg) ≡ scan c on off (itemsFrom from msg)
+  pub whole : scan c a b (itemsFrom c at msg) ≡ scan c on off (itemsFrom c from msg)
 
 module _ {c : Config} {on off from : ℕ} {msg : List ℕ} where
   pub scan-begun : Scanned c on off from msg on off from
@@ -131,14 +131,14 @@ module _ {c : Config} {on off from : ℕ} {msg : List ℕ} where
 
   module _ {a b at : ℕ} (v : Scanned c on off from msg a b at) where
     pub scan-stop : {r : ℕ} {t : Look} {s : PageScan} → at < length msg → r ≡ at + sliceLen (drop at msg)
-        → t ≡ lookAt c a b at (take (r - at) (drop at msg)) → t ≡ Stop s → told s ≡ scan c on off (itemsFrom from msg)
+        → t ≡ lookAt c a b at (take (r - at) (drop at msg)) → t ≡ Stop s → told s ≡ scan c on off (itemsFrom c from msg)
     scan-stop h e f k = stop-here c a b at msg h _ e _ f _ k ∙ v .whole
 
     pub scan-on : {r : ℕ} {t : Look} {p q : ℕ} → at < length msg → r ≡ at + sliceLen (drop at msg)
         → t ≡ lookAt c a b at (take (r - at) (drop at msg)) → t ≡ On p q → Scanned c on off from msg p q r
     scan-on h e f k = record { whole = on-here c a b at msg h _ e _ f _ _ k ∙ v .whole }
 
-    pub scan-end : length msg ≤ at → told (record { on = a; off = b; fault = None }) ≡ scan c on off (itemsFrom from msg)
+    pub scan-end : length msg ≤ at → told (record { on = a; off = b; fault = None }) ≡ scan c on off (itemsFrom c from msg)
     unfolding itemsFrom
     scan-end h = rw (cuts-end at msg h) at (v .whole)
 

@@ -39,8 +39,8 @@ lookBy c on off p (Wrong n) = ended on off (Some (refusal n (p .start) (p .len) 
 
 -- the same of the slice s, which starts at a place
 unfoldable pub lookAt : Config → ℕ → ℕ → ℕ → List ℕ → Look
-lookAt c on off at s = lookBy c on off (place at (length s)) (markItem (c .tags) (itemOf at s))
+lookAt c on off at s = lookBy c on off (place at (length s)) (markItem (c .tags) (itemOf (c .«long_times») at s))
 
 -- the items of a message from a place on
-unfoldable pub itemsFrom : ℕ → List ℕ → List Item
-itemsFrom at msg = map itemAt (cuts at 0 (drop at msg))
+unfoldable pub itemsFrom : Config → ℕ → List ℕ → List Item
+itemsFrom c at msg = map (itemAt c) (cuts at 0 (drop at msg))

@@ -108,7 +108,7 @@ fn look_at(msg: &[u8], at: usize, end: usize, c: Config, on: u16, off: u16) -> L
     ensures { λ r. ⌜ r ≡ lookAt c on off at (take (end - at) (drop at (now (msg .entry)))) ⌝ }
 {
     let s = &msg[at..end];
-    let m = mark_item(c.tags, reading::item_of(at, s));
+    let m = mark_item(c.tags, reading::item_of(at, s, c.long_times));
     let p = Place {
         start: at as u16,
         len: s.len() as u16,
@@ -119,7 +119,7 @@ fn look_at(msg: &[u8], at: usize, end: usize, c: Config, on: u16, off: u16) -> L
 // The scan of a page from a place of the message on, up to and including [np].
 pub fn scan(msg: &[u8], from: usize, c: Config, on: u16, off: u16) -> PageScan
     requires { ⌜ length (now msg) ≤ 2048 ⌝ }
-    ensures { λ r. ⌜ told r ≡ scanOf c on off (itemsFrom from (now (msg .entry))) ⌝ }
+    ensures { λ r. ⌜ told r ≡ scanOf c on off (itemsFrom c from (now (msg .entry))) ⌝ }
 {
     let mut a = on;
     let mut b = off;

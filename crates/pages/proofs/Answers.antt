@@ -74,7 +74,7 @@ shown-page a b q e = rw (q, e)
 
 -- what follows a page
 new-todo : (s : Board) (msg : List ℕ) (at : ℕ) (st : RenderState) (a b : ℕ)
-    → offs b (turned s (itemsFrom at msg) a b st) ≡ todo s msg (pagesAt at st a b (newState (ltb 0 b)))
+    → offs b (turned s (itemsFrom (s .config) at msg) a b st) ≡ todo s msg (pagesAt at st a b (newState (ltb 0 b)))
 new-todo s msg at st a zero = refl
 new-todo s msg at st a (suc b) = rw (lt-ltb 0 (suc b) (omega arith))
 
@@ -83,7 +83,7 @@ done-todo s msg at st a zero = refl
 done-todo s msg at st a (suc b) = rw (lt-ltb 0 (suc b) (omega arith))
 
 after-todo : (s : Board) (msg : List ℕ) (at : ℕ) (st : RenderState) (a b : ℕ) (m : Bool)
-    → offs b (pick m (turned s (itemsFrom at msg) a b st) []) ≡ todo s msg (pagesAt at st a b (stateAfter m b))
+    → offs b (pick m (turned s (itemsFrom (s .config) at msg) a b st) []) ≡ todo s msg (pagesAt at st a b (stateAfter m b))
 after-todo s msg at st a b true = new-todo s msg at st a b
 after-todo s msg at st a b false = done-todo s msg at st a b
 
@@ -117,12 +117,12 @@ shown-advances file msg out c at a b (EndedPage d) f =
     }
 
 module _ {file : List ℕ} {table : SignFile} {msg : List ℕ} {p : Pages} {rows out : List ℕ} (asked : NextAsked file table msg p rows out)
-    (q : PageScan) (e : scanTold q ≡ scan (table .config) (p .on) (p .off) (itemsFrom (p .at) msg)) where
+    (q : PageScan) (e : scanTold q ≡ scan (table .config) (p .on) (p .off) (itemsFrom (table .config) (p .at) msg)) where
   abbrev s : Board
   s = boardIn file msg (table .config)
 
   abbrev its : List Item
-  its = itemsFrom (p .at) msg
+  its = itemsFrom (table .config) (p .at) msg
 
   -- answered so in the state on
   abbrev Reads : List ℕ → List ℕ → NextPage → Type 0
@@ -185,7 +185,7 @@ module _ {file : List ℕ} {table : SignFile} {msg : List ℕ} {p : Pages} {rows
 pub first-is : (c : Config) {st : RenderState} {a b : ℕ} → st ≡ start c → a ≡ c .«on_time» → b ≡ c .«off_time» → pagesAt 0 st a b (OnState true) ≡ firstOf c
 first-is c p q r = rw (p, q, r)
 
-pub pages-todo : (s : Board) (msg : List ℕ) → pages s (items msg) ≡ todo s msg (firstOf (s .config))
+pub pages-todo : (s : Board) (msg : List ℕ) → pages s (items (s .config) msg) ≡ todo s msg (firstOf (s .config))
 unfolding pages events opening turned items itemsFrom slices
 pages-todo s msg = refl
 

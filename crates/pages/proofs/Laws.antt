@@ -99,8 +99,8 @@ pub record Stands (file : List ℕ) (table : SignFile) (msg : List ℕ) (from : 
   pub rowed : length rows ≡ length rows₀
   pub room : length out ≡ length out₀
   pub same : (a b : ℕ)
-      → run (boardIn file msg (table .config)) (itemsFrom at msg) a b st (spansOf out n) k
-      ≡ run (boardIn file msg (table .config)) (itemsFrom from msg) a b first [] 0
+      → run (boardIn file msg (table .config)) (itemsFrom (table .config) at msg) a b st (spansOf out n) k
+      ≡ run (boardIn file msg (table .config)) (itemsFrom (table .config) from msg) a b first [] 0
 
 pub page-start : {file : List ℕ} {table : SignFile} {msg : List ℕ} {from : ℕ} {first : RenderState} {rows out : List ℕ}
     → RenderAsked file table msg rows out from first 0 0 → Stands file table msg from first rows out rows out from first 0 0 0
@@ -140,11 +140,11 @@ module _ {file : List ℕ} {table : SignFile} {msg : List ℕ} {from : ℕ} {fir
   s = boardIn file msg (table .config)
 
   abbrev es : List Entry
-  es = entriesOf (s .config) (itemsFrom at msg) st true
+  es = entriesOf (s .config) (itemsFrom (s .config) at msg) st true
 
   -- the whole page
   abbrev whole-run : ℕ → ℕ → List Page
-  whole-run a b = run s (itemsFrom from msg) a b first [] 0
+  whole-run a b = run s (itemsFrom (s .config) from msg) a b first [] 0
 
   -- a pass was read and placed: t is its end
   module _ {rows′ out′ : List ℕ} {t : PassEnd} (p : PassRendered file table msg at st rows out n rows′ out′ t) where
@@ -158,10 +158,10 @@ module _ {file : List ℕ} {table : SignFile} {msg : List ℕ} {from : ℕ} {fir
     pub page-room : length out′ ≡ length out₀
     page-room = p .room ∙ z .room
 
-    came : (a b : ℕ) {u : PassEnd} → t ≡ u → runBy s a b k (spansOf out n) es (told msg u) ≡ whole-run a b
+    came : (a b : ℕ) {u : PassEnd} → t ≡ u → runBy s a b k (spansOf out n) es (told (s .config) msg u) ≡ whole-run a b
     came a b q =
-        ap (λ (x : PassEnd). runBy s a b k (spansOf out n) es (told msg x)) (sym q) ∙ ap (runBy s a b k (spansOf out n) es) (p .ends)
-        ∙ sym (run-pass s (itemsFrom at msg) a b st (spansOf out n) k) ∙ z .same a b
+        ap (λ (x : PassEnd). runBy s a b k (spansOf out n) es (told (s .config) msg x)) (sym q) ∙ ap (runBy s a b k (spansOf out n) es) (p .ends)
+        ∙ sym (run-pass s (itemsFrom (s .config) at msg) a b st (spansOf out n) k) ∙ z .same a b
 
     pub page-refuse : {x : Refusal} → t ≡ RefusedPass x → Ends (RefusedEnd x)
     page-refuse q = record { ends = λ a b. sym (came a b q); done = tt; rowed = page-rowed; room = page-room }
@@ -177,7 +177,7 @@ module _ {file : List ℕ} {table : SignFile} {msg : List ℕ} {from : ℕ} {fir
 
       -- what follows it, with the records rs
       abbrev next : List Span → How → ℕ → ℕ → List Page
-      next rs u a b = onward s a b k rs u (d .state) (itemsFrom (d .at) msg)
+      next rs u a b = onward s a b k rs u (d .state) (itemsFrom (s .config) (d .at) msg)
 
       here : (a b : ℕ) → next (spansOf out′ (d .count)) h a b ≡ whole-run a b
       here a b =
@@ -219,7 +219,7 @@ module _ {file : List ℕ} {table : SignFile} {msg : List ℕ} {from : ℕ} {fir
             rowed = page-rowed;
             room = page-room;
             same = λ a b.
-                ap (run s (itemsFrom (d .at) msg) a b (d .state) (spansOf out′ (d .count))) (add-one k)
+                ap (run s (itemsFrom (s .config) (d .at) msg) a b (d .state) (spansOf out′ (d .count))) (add-one k)
                 ∙ ap (λ (u : How). next (spansOf out′ (d .count)) u a b) (sym i) ∙ here a b;
           }
 

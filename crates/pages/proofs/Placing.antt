@@ -45,20 +45,20 @@ module _ {file : List ℕ} {table : SignFile} {msg : List ℕ} {from : ℕ} {st 
   s = boardIn file msg c
 
   abbrev es : List Entry
-  es = entriesOf c (itemsFrom from msg) st true
+  es = entriesOf c (itemsFrom c from msg) st true
 
   abbrev sign : Sign
   sign = signFile file
 
   abbrev end : Ending
-  end = endingOf c (itemsFrom from msg) st true
+  end = endingOf c (itemsFrom c from msg) st true
 
   -- it is rendered so: out′ are the records after it, v is its end
   abbrev Rendered : List ℕ → PassEnd → Type 0
   Rendered out′ v = PassRendered file table msg from st rows₀ out at rows out′ v
 
   pub render-refused : {x : Refusal} → t ≡ RefusedPass x → Rendered out (RefusedPass x)
-  render-refused q = record { ends = ap (placedEnding s es) (ap (told msg) (sym q) ∙ read .ends); done = tt; rowed = read .room; room = refl }
+  render-refused q = record { ends = ap (placedEnding s es) (ap (told c msg) (sym q) ∙ read .ends); done = tt; rowed = read .room; room = refl }
 
   -- it is done
   module _ {d : PassDone} (q : t ≡ EndedPass d) where
@@ -96,10 +96,10 @@ module _ {file : List ℕ} {table : SignFile} {msg : List ℕ} {from : ℕ} {st 
       records-are : rowsRecords c (d .rect) (rowsOf rows (d .count)) ≡ passRecords s (d .rect) es
       records-are = ap (rowsRecords c (d .rect)) (spans .spans) ∙ pass-records (meterIn file msg) (meter-told file msg) c (d .rect) es
 
-      ends-by : {y : Option Refusal} → faultIs o ≡ y → stopBy y (told msg (EndedPass d)) ≡ placedEnding s es end
+      ends-by : {y : Option Refusal} → faultIs o ≡ y → stopBy y (told c msg (EndedPass d)) ≡ placedEnding s es end
       ends-by e =
-          ap (λ (x : Option Refusal). stopBy x (told msg (EndedPass d))) (sym e ∙ p .fault ∙ fault-is)
-          ∙ ap (placedEnding s es) (ap (told msg) (sym q) ∙ read .ends)
+          ap (λ (x : Option Refusal). stopBy x (told c msg (EndedPass d))) (sym e ∙ p .fault ∙ fault-is)
+          ∙ ap (placedEnding s es) (ap (told c msg) (sym q) ∙ read .ends)
 
       pub render-stop : {x : Refusal} → o ≡ Some x → Rendered out′ (RefusedPass x)
       render-stop e = record { ends = ends-by (ap faultIs e); done = tt; rowed = read .room; room = p .room }

@@ -89,10 +89,13 @@ pub record SpansPlaced (file : List ℕ) (s : Board) (es : List Entry) (msg : Li
 pub record PassRendered (file : List ℕ) (table : SignFile) (msg : List ℕ) (from : ℕ) (st : RenderState) (rows out : List ℕ) (at : ℕ)
     (rows′ out′ : List ℕ) (r : PassEnd) : Type 0 where
   pub ends :
-      told msg r
-      ≡ placedEnding (boardIn file msg (table .config)) (entriesOf (table .config) (itemsFrom from msg) st true)
-      (endingOf (table .config) (itemsFrom from msg) st true)
-  pub done : IfEnded (SpansPlaced file (boardIn file msg (table .config)) (entriesOf (table .config) (itemsFrom from msg) st true) msg from out at out′) r
+      told (table .config) msg r
+      ≡ placedEnding (boardIn file msg (table .config)) (entriesOf (table .config) (itemsFrom (table .config) from msg) st true)
+      (endingOf (table .config) (itemsFrom (table .config) from msg) st true)
+  pub done :
+      IfEnded
+      (SpansPlaced file (boardIn file msg (table .config)) (entriesOf (table .config) (itemsFrom (table .config) from msg) st true) msg from out at out′)
+      r
   pub rowed : length rows′ ≡ length rows
   pub room : length out′ ≡ length out
 
@@ -123,7 +126,7 @@ pageDone c more d = record { more = more; at = d .at; count = d .count; looked =
 -- the answers that a page's end tells; l holds its records
 abbrev pub pageTold : Board → List ℕ → ℕ → ℕ → List ℕ → PageEnd → List Page
 pageTold s msg a b l (RefusedEnd r) = refusedPage r ∷ []
-pageTold s msg a b l (EndedPage d) = on a (spansOf l (d .count)) ∷ offs b (pick (d .more) (turned s (itemsFrom (d .at) msg) a b (d .state)) [])
+pageTold s msg a b l (EndedPage d) = on a (spansOf l (d .count)) ∷ offs b (pick (d .more) (turned s (itemsFrom (s .config) (d .at) msg) a b (d .state)) [])
 
 -- what is said of a page, unless it is refused
 abbrev pub IfPageEnded : (PageDone → Type 0) → PageEnd → Type 0
@@ -144,7 +147,7 @@ pub record PageInMessage (file msg out : List ℕ) (c : Config) (from : ℕ) (d 
 pub record PageRendered (file : List ℕ) (table : SignFile) (msg : List ℕ) (from : ℕ) (first : RenderState) (rows out rows′ out′ : List ℕ)
     (r : PageEnd) : Type 0 where
   pub ends : (a b : ℕ)
-      → run (boardIn file msg (table .config)) (itemsFrom from msg) a b first [] 0 ≡ pageTold (boardIn file msg (table .config)) msg a b out′ r
+      → run (boardIn file msg (table .config)) (itemsFrom (table .config) from msg) a b first [] 0 ≡ pageTold (boardIn file msg (table .config)) msg a b out′ r
   pub done : IfPageEnded (PageInMessage file msg out′ (table .config) from) r
   pub rowed : length rows′ ≡ length rows
   pub room : length out′ ≡ length out
@@ -176,8 +179,8 @@ firstOf c = pagesAt 0 (start c) (c .«on_time») (c .«off_time») (OnState true
 
 -- the answers that are still to come
 abbrev pub todoBy : Board → List ℕ → Pages → PageState → List Page
-todoBy s msg p (OnState b) = turned s (itemsFrom (p .at) msg) (p .on) (p .off) (p .«render_state»)
-todoBy s msg p (OffState true) = off (p .off) ∷ turned s (itemsFrom (p .at) msg) (p .on) (p .off) (p .«render_state»)
+todoBy s msg p (OnState b) = turned s (itemsFrom (s .config) (p .at) msg) (p .on) (p .off) (p .«render_state»)
+todoBy s msg p (OffState true) = off (p .off) ∷ turned s (itemsFrom (s .config) (p .at) msg) (p .on) (p .off) (p .«render_state»)
 todoBy s msg p (OffState false) = off (p .off) ∷ []
 todoBy s msg p Done = []
 

@@ -2,6 +2,7 @@
 -- The text of [ms] and [mv] is a place in the message; `end` is the place where the tag's bytes end, its ].
 use Prim.Native.Nat.{ℕ, _+_, _-_, _*_}
 use mathlib.Core.List.{List}
+use mathlib.Core.Bool.{Bool}
 use lib.Dec.{leb, eqb}
 use lib.ListN.{length, getD, drop}
 use Rattle.base.specs.Pick.{pick}
@@ -151,31 +152,31 @@ nameLen ScEnd = 3
 nameLen Tr = 2
 nameLen Other = 0
 
--- the bytes p after a name, which end at a place of the message
-abbrev pub byName : Name → ℕ → List ℕ → Parsed
-byName Cb end p = colorBackground p
-byName Cf end p = colorForeground p
-byName Cr end p = colorRectangle p
-byName F end p = field p
-byName Fl end p = flashTime p
-byName FlEnd end p = flashEnd p
-byName Fo end p = font p
-byName G end p = graphic p
-byName Hc end p = hexadecimalCharacter p
-byName Jl end p = justificationLine p
-byName Jp end p = justificationPage p
-byName Ms end p = manufacturerSpecific end p
-byName MsEnd end p = manufacturerSpecificEnd end p
-byName Mv end p = movingText end p
-byName Nl end p = newLine p
-byName Np end p = newPage p
-byName Pb end p = pageBackground p
-byName Pt end p = pageTime p
-byName Sc end p = spacingCharacter p
-byName ScEnd end p = spacingCharacterEnd p
-byName Tr end p = textRectangle p
-byName Other end p = Unsupported
+-- the bytes p after a name, which end at a place of the message; long: long times hold
+abbrev pub byName : Bool → Name → ℕ → List ℕ → Parsed
+byName long Cb end p = colorBackground p
+byName long Cf end p = colorForeground p
+byName long Cr end p = colorRectangle p
+byName long F end p = field p
+byName long Fl end p = flashTime p
+byName long FlEnd end p = flashEnd p
+byName long Fo end p = font p
+byName long G end p = graphic p
+byName long Hc end p = hexadecimalCharacter p
+byName long Jl end p = justificationLine p
+byName long Jp end p = justificationPage p
+byName long Ms end p = manufacturerSpecific end p
+byName long MsEnd end p = manufacturerSpecificEnd end p
+byName long Mv end p = movingText end p
+byName long Nl end p = newLine p
+byName long Np end p = newPage p
+byName long Pb end p = pageBackground p
+byName long Pt end p = pageTime long p
+byName long Sc end p = spacingCharacter p
+byName long ScEnd end p = spacingCharacterEnd p
+byName long Tr end p = textRectangle p
+byName long Other end p = Unsupported
 
--- `parse_tag`: a tag without its brackets, whose bytes end at a place of the message
-unfoldable pub tagValue : ℕ → List ℕ → Parsed
-tagValue end l = byName (nameOf l) end (drop (nameLen (nameOf l)) l)
+-- `parse_tag`: a tag without its brackets, whose bytes end at a place of the message; long: long times hold
+unfoldable pub tagValue : Bool → ℕ → List ℕ → Parsed
+tagValue long end l = byName long (nameOf l) end (drop (nameLen (nameOf l)) l)

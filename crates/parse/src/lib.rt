@@ -295,10 +295,10 @@ fn name_len(name: Name) -> usize
     }
 }
 
-// The bytes after a name, which end at a place of the message.
-fn by_name(name: Name, p: &[u8], end: usize) -> Parsed
+// The bytes after a name, which end at a place of the message; long times may hold.
+fn by_name(name: Name, p: &[u8], end: usize, long: bool) -> Parsed
     requires { ⌜ (length (now p) ≤ end) × (end ≤ 65535) ⌝ }
-    ensures { λ r. ⌜ r ≡ byName name end (now (p .entry)) ⌝ }
+    ensures { λ r. ⌜ r ≡ byName long name end (now (p .entry)) ⌝ }
 {
     match name {
         Name::Cb => tag::parse_color_background(p),
@@ -318,7 +318,7 @@ fn by_name(name: Name, p: &[u8], end: usize) -> Parsed
         Name::Nl => tag::parse_new_line(p),
         Name::Np => tag::parse_new_page(p),
         Name::Pb => tag::parse_page_background(p),
-        Name::Pt => tag::parse_page_time(p),
+        Name::Pt => tag::parse_page_time(p, long),
         Name::Sc => tag::parse_spacing_character(p),
         Name::ScEnd => tag::parse_spacing_character_end(p),
         Name::Tr => tag::parse_text_rectangle(p),
@@ -326,11 +326,11 @@ fn by_name(name: Name, p: &[u8], end: usize) -> Parsed
     }
 }
 
-// A tag without its brackets, whose bytes end at a place of the message.
-pub fn parse_tag(tag: &[u8], end: usize) -> Parsed
+// A tag without its brackets, whose bytes end at a place of the message; long times may hold.
+pub fn parse_tag(tag: &[u8], end: usize, long: bool) -> Parsed
     requires { ⌜ (length (now tag) ≤ end) × (end ≤ 65535) ⌝ }
-    ensures { λ r. ⌜ r ≡ tagValue end (now (tag .entry)) ⌝ }
+    ensures { λ r. ⌜ r ≡ tagValue long end (now (tag .entry)) ⌝ }
 {
     let name = name_of(tag);
-    by_name(name, part::tail(tag, name_len(name)), end)
+    by_name(name, part::tail(tag, name_len(name)), end, long)
 }

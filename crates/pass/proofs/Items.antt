@@ -95,22 +95,22 @@ bracket-narrow s e = go (isPair 91 s) (isPair 93 s) refl refl (eqb (getD s 0 0) 
     go false false p q false y true d = absurd (let k : _≡_ {A = ℕ} 0 1 = cc in omega arith)
     go false false p q false y false d = absurd (let k : _≡_ {A = ℕ} 0 1 = cc in omega arith)
 
-module _ (a : ℕ) (s : List ℕ) where
-  tag-clear : Clear s (roleIn (tagItem a s))
+module _ (long : Bool) (a : ℕ) (s : List ℕ) where
+  tag-clear : Clear s (roleIn (tagItem long a s))
   unfolding tagItem
-  tag-clear = pick-clear s (leb 2 (length s)) _ _ (λ _. parsed-clear s (tag-value _ _)) (λ _. tt)
+  tag-clear = pick-clear s (leb 2 (length s)) _ _ (λ _. parsed-clear s (tag-value _ _ _)) (λ _. tt)
 
   text-clear : Clear s (roleIn (textItem a s))
   unfolding textItem
   text-clear = pick-clear s (allLatin1 (codes s)) _ _ (λ e. rw (take-all (length s) s (le-refl _)) (latin-narrow (codes s) e)) (λ _. tt)
 
-  shape-clear : (sh : Shape) → shapeOf s ≡ sh → Clear s (roleIn (shapeItem sh a s))
+  shape-clear : (sh : Shape) → shapeOf s ≡ sh → Clear s (roleIn (shapeItem long sh a s))
   shape-clear Bracket e = bracket-narrow s e
   shape-clear Tag e = tag-clear
   shape-clear Stray e = tt
   shape-clear TextShape e = text-clear
 
-  item-clear : Clear s (roleIn (itemOf a s))
+  item-clear : Clear s (roleIn (itemOf long a s))
   unfolding itemOf
   item-clear = shape-clear (shapeOf s) refl
 
@@ -123,5 +123,5 @@ module _ (a : ℕ) (s : List ℕ) where
   spoken e pageRole h k z = absurd (h z)
   spoken e other h k z = absurd (h z)
 
-  pub spoken-narrow : (e : Entry) → Spoken e (roleIn (itemOf a s)) → e .kind ≡ 0 → CodesFit (codes (take (e .len) s))
-  spoken-narrow e h z = spoken e (roleIn (itemOf a s)) h item-clear z
+  pub spoken-narrow : (e : Entry) → Spoken e (roleIn (itemOf long a s)) → e .kind ≡ 0 → CodesFit (codes (take (e .len) s))
+  spoken-narrow e h z = spoken e (roleIn (itemOf long a s)) h item-clear z

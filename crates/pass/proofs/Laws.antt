@@ -69,9 +69,9 @@ same-inside c q r e h = rw e h
 
 -- ---- the loop
 
-items-end : (at : ℕ) (l : List ℕ) → length l ≤ at → itemsFrom at l ≡ []
+items-end : (c : Config) (at : ℕ) (l : List ℕ) → length l ≤ at → itemsFrom c at l ≡ []
 unfolding itemsFrom
-items-end at l h = ap (map itemAt) (cuts-end at l h)
+items-end c at l h = ap (map (itemAt c)) (cuts-end at l h)
 
 -- where the loop stands: first is the state it began with, rows₀ the rows
 pub record Stands (file : List ℕ) (table : SignFile) (msg : List ℕ) (from : ℕ) (first : RenderState) (rows₀ rows : List ℕ)
@@ -82,13 +82,13 @@ pub record Stands (file : List ℕ) (table : SignFile) (msg : List ℕ) (from : 
   pub asked : PassAsked file table msg from first rows₀
   pub room : length rows ≡ length rows₀
   pub inside : Inside (table .config) (st .rect)
-  pub ending : endingOf (table .config) (itemsFrom at msg) st blank ≡ endingOf (table .config) (itemsFrom from msg) first true
+  pub ending : endingOf (table .config) (itemsFrom (table .config) at msg) st blank ≡ endingOf (table .config) (itemsFrom (table .config) from msg) first true
   pub entries :
-      rowsOf rows n ++ map (rowOf (meterIn file msg)) (entriesOf (table .config) (itemsFrom at msg) st blank)
-      ≡ map (rowOf (meterIn file msg)) (entriesOf (table .config) (itemsFrom from msg) first true)
+      rowsOf rows n ++ map (rowOf (meterIn file msg)) (entriesOf (table .config) (itemsFrom (table .config) at msg) st blank)
+      ≡ map (rowOf (meterIn file msg)) (entriesOf (table .config) (itemsFrom (table .config) from msg) first true)
   pub sum :
-      looked + sumOf (lookedBy file msg) (entriesOf (table .config) (itemsFrom at msg) st blank)
-      ≡ sumOf (lookedBy file msg) (entriesOf (table .config) (itemsFrom from msg) first true)
+      looked + sumOf (lookedBy file msg) (entriesOf (table .config) (itemsFrom (table .config) at msg) st blank)
+      ≡ sumOf (lookedBy file msg) (entriesOf (table .config) (itemsFrom (table .config) from msg) first true)
   pub kept : held < 256 → WidthsOf file table held widths
 
 module _ {file : List ℕ} {table : SignFile} {msg : List ℕ} {from : ℕ} {first : RenderState} {rows₀ rows : List ℕ}
@@ -103,33 +103,33 @@ module _ {file : List ℕ} {table : SignFile} {msg : List ℕ} {from : ℕ} {fir
 
   -- the whole pass: its ending, and its rows
   abbrev End : Ending
-  End = endingOf c (itemsFrom from msg) first true
+  End = endingOf c (itemsFrom c from msg) first true
 
   abbrev All : List Row
-  All = map f (entriesOf c (itemsFrom from msg) first true)
+  All = map f (entriesOf c (itemsFrom c from msg) first true)
 
   -- how many characters are looked up for entries, and for the whole pass
   abbrev lookedFor : List Entry → ℕ
   lookedFor = sumOf (lookedBy file msg)
 
   abbrev Looked : ℕ
-  Looked = lookedFor (entriesOf c (itemsFrom from msg) first true)
+  Looked = lookedFor (entriesOf c (itemsFrom c from msg) first true)
 
   -- what is promised of the end
   abbrev Ends : PassEnd → Type 0
   Ends = PassRead file table msg from first rows₀ rows
 
   -- the pass is done
-  finish : {v : PassEnd} {d : PassDone} → v ≡ EndedBy d → told msg (EndedBy d) ≡ End → SpansRead file table msg from first rows d → Ends v
+  finish : {v : PassEnd} {d : PassDone} → v ≡ EndedBy d → told c msg (EndedBy d) ≡ End → SpansRead file table msg from first rows d → Ends v
   finish q e s = subst Ends (sym q) (record { ends = e; done = s; room = z .room })
 
   -- the message's end
   pub pass-end : {v : PassEnd} → length msg ≤ at → v ≡ EndedBy (doneBy ByEnd at n looked (st .rect) st) → Ends v
   pass-end h q =
-      finish q (last-ending (itemsFrom at msg) none-left ∙ z .ending)
+      finish q (last-ending (itemsFrom c at msg) none-left ∙ z .ending)
       (record {
-        spans = last-entries (itemsFrom at msg) none-left ∙ z .entries;
-        looked = last-sum (itemsFrom at msg) none-left ∙ z .sum;
+        spans = last-entries (itemsFrom c at msg) none-left ∙ z .entries;
+        looked = last-sum (itemsFrom c at msg) none-left ∙ z .sum;
         counted = omega (arith, z .counted);
         few = z .few;
         within = z .within;
@@ -137,8 +137,8 @@ module _ {file : List ℕ} {table : SignFile} {msg : List ℕ} {from : ℕ} {fir
         next = z .inside;
       })
     where
-      none-left : itemsFrom at msg ≡ []
-      none-left = items-end at msg h
+      none-left : itemsFrom c at msg ≡ []
+      none-left = items-end c at msg h
 
       last-ending : (its : List Item) → its ≡ [] → ended ByEnd (st .rect) st its ≡ endingOf c its st blank
       last-ending its e = rw e
@@ -167,30 +167,32 @@ module _ {file : List ℕ} {table : SignFile} {msg : List ℕ} {from : ℕ} {fir
     unfolding bytes
     size = length-take-le (r - at) (drop at msg) (omega (arith, length-drop at msg, past))
 
-    from-next : itemsFrom at msg ≡ itemAt slice ∷ itemsFrom r msg
+    from-next : itemsFrom c at msg ≡ itemAt c slice ∷ itemsFrom c r msg
     unfolding itemsFrom slice bytes
-    from-next = ap (map itemAt) (cuts-next at msg (g .more) r (g .next))
+    from-next = ap (map (itemAt c)) (cuts-next at msg (g .more) r (g .next))
 
-    stepped : step c st blank (itemAt slice) ≡ t
+    stepped : step c st blank (itemAt c slice) ≡ t
     unfolding stepAt slice bytes
     stepped = sym (g .does)
 
     -- the ending and the entries from here on, by a step
     abbrev ending : Step → Ending
-    ending = endingBy st (itemsFrom r msg) (endingOf c (itemsFrom r msg))
+    ending = endingBy st (itemsFrom c r msg) (endingOf c (itemsFrom c r msg))
 
     abbrev entries : Step → List Entry
-    entries = entriesBy (entriesOf c (itemsFrom r msg))
+    entries = entriesBy (entriesOf c (itemsFrom c r msg))
 
-    here-ending : endingOf c (itemsFrom at msg) st blank ≡ ending t
+    here-ending : endingOf c (itemsFrom c at msg) st blank ≡ ending t
     here-ending = ap (λ (l : List Item). endingOf c l st blank) from-next ∙ ap ending stepped
 
-    here-entries : entriesOf c (itemsFrom at msg) st blank ≡ entries t
+    here-entries : entriesOf c (itemsFrom c at msg) st blank ≡ entries t
     here-entries = ap (λ (l : List Item). entriesOf c l st blank) from-next ∙ ap entries stepped
 
-    lies : StepWithin c st (itemAt slice) t
+    lies : StepWithin c st (itemAt c slice) t
     unfolding slice
-    lies = subst (StepWithin c st (itemAt slice)) stepped (step-within c st blank (itemAt slice) (item-within at bytes (omega (arith, size, more))))
+    lies =
+        subst (StepWithin c st (itemAt c slice)) stepped
+        (step-within c st blank (itemAt c slice) (item-within (c .«long_times») at bytes (omega (arith, size, more))))
 
     -- the step is u
     module _ {u : Step} (q : t ≡ u) where
@@ -203,8 +205,8 @@ module _ {file : List ℕ} {table : SignFile} {msg : List ℕ} {from : ℕ} {fir
       sum-so : looked + lookedFor (entries u) ≡ Looked
       sum-so = ap (λ (l : List Entry). looked + lookedFor l) (sym (here-entries ∙ ap entries q)) ∙ z .sum
 
-      lies-so : StepWithin c st (itemAt slice) u
-      lies-so = subst (StepWithin c st (itemAt slice)) q lies
+      lies-so : StepWithin c st (itemAt c slice) u
+      lies-so = subst (StepWithin c st (itemAt c slice)) q lies
 
     pub pass-refuse : {x : Refusal} → t ≡ Refuse x → Ends (RefusedBy x)
     pass-refuse q = record { ends = ends-so q; done = tt; room = z .room }
@@ -246,7 +248,7 @@ module _ {file : List ℕ} {table : SignFile} {msg : List ℕ} {from : ℕ} {fir
 
     -- a span: its row is stored
     module _ {x : Entry} {st′ : RenderState} {b : Bool} (q : t ≡ Emit x st′ b) where
-      spoke : StepWithin c st (itemAt slice) (Emit x st′ b)
+      spoke : StepWithin c st (itemAt c slice) (Emit x st′ b)
       spoke = lies-so q
 
       starts : x .start ≡ at
@@ -259,7 +261,7 @@ module _ {file : List ℕ} {table : SignFile} {msg : List ℕ} {from : ℕ} {fir
 
       narrow : x .kind ≡ 0 → CodesFit (codes (take (x .len) bytes))
       unfolding slice
-      narrow k = spoken-narrow at bytes x (spoke .2 .spoken) k
+      narrow k = spoken-narrow (c .«long_times») at bytes x (spoke .2 .spoken) k
 
       pass-reads : EntryIn msg x
       unfolding partCodes bytes
@@ -275,7 +277,7 @@ module _ {file : List ℕ} {table : SignFile} {msg : List ℕ} {from : ℕ} {fir
 
       -- the rows from here on
       abbrev later : List Row
-      later = map f (entriesOf c (itemsFrom r msg) st′ b)
+      later = map f (entriesOf c (itemsFrom c r msg) st′ b)
 
       -- no more characters than the slice has bytes
       looked-here : {widths′ rows′ : List ℕ} {y : Kept} → Stored file table msg x rows n widths′ rows′ y → y .looked ≤ r - at
@@ -375,13 +377,13 @@ module _ (c : Config) (st : RenderState) (blank : Bool) (p : Place) {item : Said
   step-fails q = rw q
 
 step-said : (c : Config) (st : RenderState) (blank : Bool) (at n : ℕ) (l : List ℕ) (x : Said) (t : Step)
-    → x ≡ itemOf at l → n ≡ length l → t ≡ itemStep c st blank (place at n) x → t ≡ stepAt c st blank at l
+    → x ≡ itemOf (c .«long_times») at l → n ≡ length l → t ≡ itemStep c st blank (place at n) x → t ≡ stepAt c st blank at l
 unfolding stepAt step
 step-said c st blank at n l x t p q r =
     r ∙ ap (λ (k : ℕ). itemStep c st blank (place at k) x) q ∙ ap (itemStep c st blank (place at (length l))) p
 
 pub step-is : {c : Config} {msg : List ℕ} {st : RenderState} {blank : Bool} {at end : ℕ} {x : Said} {t : Step} → Sliced c msg at end
-    → x ≡ itemOf at (take (end - at) (drop at msg)) → t ≡ itemStep c st blank (place at (length (take (end - at) (drop at msg)))) x
+    → x ≡ itemOf (c .«long_times») at (take (end - at) (drop at msg)) → t ≡ itemStep c st blank (place at (length (take (end - at) (drop at msg)))) x
     → Steps c msg st blank at end t
 step-is {c} {msg} {st} {blank} {at} {end} {x} {t} h p r =
     let s : List ℕ = take (end - at) (drop at msg) in

@@ -58,15 +58,15 @@ endingOf c (it ∷ its) st blank = endingBy st its (endingOf c its) (step c st b
 
 -- what the slice s, which starts at a place, does
 unfoldable pub stepAt : Config → RenderState → Bool → ℕ → List ℕ → Step
-stepAt c st blank at s = step c st blank (itemAt (record { start = at; bytes = s }))
+stepAt c st blank at s = step c st blank (itemAt c (record { start = at; bytes = s }))
 
 abbrev pub doneBy : How → ℕ → ℕ → ℕ → Rect → RenderState → PassDone
 doneBy h at n k r st = record { how = h; at = at; count = n; looked = k; rect = r; state = st }
 
 -- the ending that the code tells
-abbrev pub told : List ℕ → PassEnd → Ending
-told msg (RefusedBy r) = refused r
-told msg (EndedBy d) = ended (d .how) (d .rect) (d .state) (itemsFrom (d .at) msg)
+abbrev pub told : Config → List ℕ → PassEnd → Ending
+told c msg (RefusedBy r) = refused r
+told c msg (EndedBy d) = ended (d .how) (d .rect) (d .state) (itemsFrom c (d .at) msg)
 
 -- what is said of a pass, unless it is refused
 abbrev pub IfEnded : (PassDone → Type 0) → PassEnd → Type 0
@@ -128,8 +128,8 @@ pub record PassAsked (file : List ℕ) (table : SignFile) (msg : List ℕ) (from
 -- a pass that is done: the first rows are its spans', and their measures looked so many characters up; each has a byte beside those of its end; and its
 -- rectangles lie inside the sign
 pub record SpansRead (file : List ℕ) (table : SignFile) (msg : List ℕ) (from : ℕ) (first : RenderState) (rows : List ℕ) (d : PassDone) : Type 0 where
-  pub spans : rowsOf rows (d .count) ≡ map (rowOf (meterIn file msg)) (entriesOf (table .config) (itemsFrom from msg) first true)
-  pub looked : d .looked ≡ sumOf (lookedBy file msg) (entriesOf (table .config) (itemsFrom from msg) first true)
+  pub spans : rowsOf rows (d .count) ≡ map (rowOf (meterIn file msg)) (entriesOf (table .config) (itemsFrom (table .config) from msg) first true)
+  pub looked : d .looked ≡ sumOf (lookedBy file msg) (entriesOf (table .config) (itemsFrom (table .config) from msg) first true)
   pub counted : from + d .count + tagBytes (d .how) ≤ d .at
   pub few : from + d .looked ≤ d .at
   pub within : d .at ≤ length msg
@@ -138,7 +138,7 @@ pub record SpansRead (file : List ℕ) (table : SignFile) (msg : List ℕ) (from
 
 -- the pass from a place on was read, and ended so; rows were there before it, and rows′ are after it
 pub record PassRead (file : List ℕ) (table : SignFile) (msg : List ℕ) (from : ℕ) (first : RenderState) (rows rows′ : List ℕ) (r : PassEnd) : Type 0 where
-  pub ends : told msg r ≡ endingOf (table .config) (itemsFrom from msg) first true
+  pub ends : told (table .config) msg r ≡ endingOf (table .config) (itemsFrom (table .config) from msg) first true
   pub done : IfEnded (SpansRead file table msg from first rows′) r
   pub room : length rows′ ≡ length rows
 

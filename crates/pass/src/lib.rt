@@ -59,7 +59,7 @@ fn step_at(msg: &[u8], at: usize, end: usize, c: Config, st: RenderState, blank:
     ensures { λ r. ⌜ Steps c (now (msg .entry)) st blank at end r ⌝ }
 {
     let s = &msg[at..end];
-    let item = reading::item_of(at, s);
+    let item = reading::item_of(at, s, c.long_times);
     let p = Place {
         start: at as u16,
         len: s.len() as u16,

@@ -2,6 +2,7 @@
 use Prim.Native.Nat.{ℕ, _+_, _-_, _≤_, _<_}
 use mathlib.Core.Path.{_≡_}
 use mathlib.Core.List.{List}
+use mathlib.Core.Bool.{Bool}
 use native.Mathlib.Nat.{add-sub-cancel-left}
 use native.Mathlib.Omega.{arith}
 use lib.ListN.{length, take, drop, length-drop}
@@ -11,10 +12,10 @@ use Rattle.token.proofs.Laws.{next-le, next-from}
 use Rattle.reading.specs.declared.Reading.{Reading}
 use Rattle.reading.specs.Reading.{sliceReading, readingAt}
 
-pub slice-way : (l : List ℕ) (at end : ℕ) (r : Reading) → end ≡ at + sliceLen (drop at l) → r ≡ sliceReading at (take (end - at) (drop at l))
-    → r ≡ readingAt l at
+pub slice-way : (long : Bool) (l : List ℕ) (at end : ℕ) (r : Reading) → end ≡ at + sliceLen (drop at l)
+    → r ≡ sliceReading long at (take (end - at) (drop at l)) → r ≡ readingAt long l at
 unfolding readingAt
-slice-way l at end r e p = rw (e, add-sub-cancel-left) at p
+slice-way long l at end r e p = rw (e, add-sub-cancel-left) at p
 
 -- it ends within the message, so its places have 16 bits
 pub slice-room : (l : List ℕ) (at end : ℕ) → at < length l → length l ≤ 2048 → end ≡ at + sliceLen (drop at l)

@@ -3,6 +3,7 @@ use Prim.Native.Nat.{ℕ}
 use Prim.Native.String.{String}
 use mathlib.Core.Path.{_≡_, refl}
 use mathlib.Core.List.{[], _∷_}
+use mathlib.Core.Bool.{true, false}
 use Rattle.base.specs.Text.{ascii}
 use Rattle.number.specs.Number.{digitOf, readFrom, readDigits, readNumber, versionId}
 use Rattle.utf8.specs.Utf8.{first, extra, low, high, fits, afterByte, wellFormedFrom, wellFormed, codeOf, codesFrom, codes, allLatin1, continues, insideCharacter}
@@ -27,21 +28,21 @@ use Rattle.reading.specs.Reading.{place, refused, tagItem, textItem, ite
 
 -- the value of a message of one slice
 abbrev is : String → ℕ → Value → Type 0
-is t n v = reading (ascii t) 0 ≡ Slice (place 0 n) v
+is t n v = reading false (ascii t) 0 ≡ Slice (place 0 n) v
 
 -- its refusal
 abbrev fails : String → ℕ → ℕ → Type 0
-fails t n k = reading (ascii t) 0 ≡ refused k 0 n
+fails t n k = reading false (ascii t) 0 ≡ refused k 0 n
 
 pub record Examples : Type 0 where
-  pub empty : reading (ascii "") 0 ≡ End
-  pub past : reading (ascii "A") 2 ≡ refused 4 0 0
-  pub second : reading (ascii "A[np]B") 1 ≡ Slice (place 1 4) NewPage
-  pub inner : reading (ascii "A[nl]") 2 ≡ Slice (place 2 2) (Text (place 2 2))
-  pub e-acute : reading (195 ∷ 169 ∷ []) 0 ≡ Slice (place 0 2) (Text (place 0 2))
-  pub inside : reading (195 ∷ 169 ∷ []) 1 ≡ refused 4 0 0
-  pub cut : reading (65 ∷ 195 ∷ []) 0 ≡ refused 3 0 0
-  pub euro : reading (226 ∷ 130 ∷ 172 ∷ []) 0 ≡ refused 7 0 3
+  pub empty : reading false (ascii "") 0 ≡ End
+  pub past : reading false (ascii "A") 2 ≡ refused 4 0 0
+  pub second : reading false (ascii "A[np]B") 1 ≡ Slice (place 1 4) NewPage
+  pub inner : reading false (ascii "A[nl]") 2 ≡ Slice (place 2 2) (Text (place 2 2))
+  pub e-acute : reading false (195 ∷ 169 ∷ []) 0 ≡ Slice (place 0 2) (Text (place 0 2))
+  pub inside : reading false (195 ∷ 169 ∷ []) 1 ≡ refused 4 0 0
+  pub cut : reading false (65 ∷ 195 ∷ []) 0 ≡ refused 3 0 0
+  pub euro : reading false (226 ∷ 130 ∷ 172 ∷ []) 0 ≡ refused 7 0 3
   pub stray : fails "]" 1 5
   pub brackets : is "[[" 2 (Text (place 0 1))
   pub unclosed : fails "[nl" 3 5
@@ -59,6 +60,9 @@ pub record Examples : Type 0 where
   pub plus-just : fails "[jl+2]" 6 6
   pub times : is "[pt10O5]" 8 (PageTime (Some 10) (Some 5))
   pub over : fails "[pt256]" 7 6
+  -- A5, where long times hold
+  pub long : reading true (ascii "[pt600o65535]") 0 ≡ Slice (place 0 13) (PageTime (Some 600) (Some 65535))
+  pub long-over : reading true (ascii "[pto65536]") 0 ≡ refused 6 0 10
   pub spacing : is "[sc99]" 6 (SpacingCharacter 99)
   pub wide : fails "[sc100]" 7 6
   pub rect : is "[tr1,2,0,65535]" 15 (TextRectangle (record { x = 1; y = 2; width = 0; height = 65535 }))

@@ -33,13 +33,13 @@ fn parsed_item(p: Parsed) -> Said
 }
 
 // A slice from [ to ].
-fn tag_item(at: usize, s: &[u8]) -> Said
+fn tag_item(at: usize, s: &[u8], long: bool) -> Said
     requires { ⌜ at + length (now s) ≤ 65535 ⌝ }
-    ensures { λ r. ⌜ r ≡ tagItem at (now (s .entry)) ⌝ }
+    ensures { λ r. ⌜ r ≡ tagItem long at (now (s .entry)) ⌝ }
 {
     if 2 <= s.len() {
         let last = s.len() - 1;
-        return parsed_item(parse::parse_tag(&s[1..last], at + last));
+        return parsed_item(parse::parse_tag(&s[1..last], at + last, long));
     }
     Said::Fails(5)
 }
@@ -57,10 +57,10 @@ fn text_item(at: usize, s: &[u8]) -> Said
     Said::Fails(7)
 }
 
-// `Value::try_from`: the slice s, which starts at a place of the message.
-pub fn item_of(at: usize, s: &[u8]) -> Said
+// `Value::try_from`: the slice s, which starts at a place of the message; long times may hold.
+pub fn item_of(at: usize, s: &[u8], long: bool) -> Said
     requires { ⌜ at + length (now s) ≤ 65535 ⌝ }
-    ensures { λ r. ⌜ r ≡ itemOf at (now (s .entry)) ⌝ }
+    ensures { λ r. ⌜ r ≡ itemOf long at (now (s .entry)) ⌝ }
 {
     let shape = token::shape_of(s);
     match shape {
@@ -68,7 +68,7 @@ pub fn item_of(at: usize, s: &[u8]) -> Said
             start: at as u16,
             len: 1,
         })),
-        Shape::Tag => tag_item(at, s),
+        Shape::Tag => tag_item(at, s, long),
         Shape::Stray => Said::Fails(5),
         Shape::Text => text_item(at, s),
     }
@@ -87,11 +87,11 @@ fn refuse(number: u8) -> Reading
 }
 
 // The slice s, which starts at a place of the message.
-fn slice_reading(at: usize, s: &[u8]) -> Reading
+fn slice_reading(at: usize, s: &[u8], long: bool) -> Reading
     requires { ⌜ at + length (now s) ≤ 65535 ⌝ }
-    ensures { λ r. ⌜ r ≡ sliceReading at (now (s .entry)) ⌝ }
+    ensures { λ r. ⌜ r ≡ sliceReading long at (now (s .entry)) ⌝ }
 {
-    let item = item_of(at, s);
+    let item = item_of(at, s, long);
     let start = at as u16;
     let len = s.len() as u16;
     match item {
@@ -106,17 +106,17 @@ fn slice_reading(at: usize, s: &[u8]) -> Reading
 }
 
 // The slice at the offset of a message that was looked at.
-fn reading_at(msg: &[u8], offset: usize) -> Reading
+fn reading_at(msg: &[u8], offset: usize, long: bool) -> Reading
     requires { ⌜ (offset < length (now msg)) × (length (now msg) ≤ 2048) ⌝ }
-    ensures { λ r. ⌜ r ≡ readingAt (now (msg .entry)) offset ⌝ }
+    ensures { λ r. ⌜ r ≡ readingAt long (now (msg .entry)) offset ⌝ }
 {
     let end = token::slice_end(msg, offset);
-    slice_reading(offset, &msg[offset..end])
+    slice_reading(offset, &msg[offset..end], long)
 }
 
-// Reading: message, offset.
-pub fn read(msg: &[u8], offset: usize) -> Reading
-    ensures { λ r. ⌜ r ≡ reading (now (msg .entry)) offset ⌝ }
+// Reading: message, offset, and whether long times hold.
+pub fn read(msg: &[u8], offset: usize, long: bool) -> Reading
+    ensures { λ r. ⌜ r ≡ reading long (now (msg .entry)) offset ⌝ }
 {
     if 2048 < msg.len() {
         return refuse(2);
@@ -133,5 +133,5 @@ pub fn read(msg: &[u8], offset: usize) -> Reading
     if offset == msg.len() {
         return Reading::End;
     }
-    reading_at(msg, offset)
+    reading_at(msg, offset, long)
 }

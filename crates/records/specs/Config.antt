@@ -26,14 +26,15 @@ configWith w h t body =
       «off_time» = getD body 10 0;
       tags = t;
       capitals = false;
+      «long_times» = false;
     }
 
 unfoldable pub configOf : List ℕ → Config
 configOf body = configWith (littleAt 2 0 body) (littleAt 2 2 body) (littleAt 4 11 body) body
 
--- the configuration with the options of the file, which are records of their own (document 02): A4, kind 4
-abbrev pub withOptions : Bool → Config → Config
-withOptions capitals c =
+-- the configuration with the options of the file, which are records of their own (document 02): A4, kind 4; A5, kind 5
+abbrev pub withOptions : Bool → Bool → Config → Config
+withOptions capitals long c =
     record {
       width = c .width;
       height = c .height;
@@ -46,6 +47,7 @@ withOptions capitals c =
       «off_time» = c .«off_time»;
       tags = c .tags;
       capitals = capitals;
+      «long_times» = long;
     }
 
 -- a width or a height: "1 to 4,096"

@@ -14,7 +14,8 @@ pub enum Head {
     Short,
 }
 
-// The values of kind 1, and the options, which are records of their own: capitals may stand in for small letters (kind 4).
+// The values of kind 1, and the options, which are records of their own: capitals may stand in for small letters
+// (kind 4), page times may be long (kind 5).
 pub struct Config {
     pub width: u16,
     pub height: u16,
@@ -27,6 +28,7 @@ pub struct Config {
     pub off_time: u8,
     pub tags: u32,
     pub capitals: bool,
+    pub long_times: bool,
 }
 
 pub enum First {
@@ -149,6 +151,7 @@ fn config_in(body: &[u8]) -> Config
         off_time: body[10],
         tags: le32(body, 11),
         capitals: false,
+        long_times: false,
     }
 }
 

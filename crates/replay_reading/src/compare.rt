@@ -171,7 +171,7 @@ fn is_numbers(line: &[u8], m: Numbers) -> bool {
 
 // Whether a slice line says what the reading call reads at a place.
 fn is_value(line: &[u8], msg: &[u8], at: usize) -> bool {
-    let r = reading::read(msg, at);
+    let r = reading::read(msg, at, false);
     match r {
         Reading::Slice(_, v) => is_numbers(line, numbers::numbers_of(v)),
         Reading::End => false,

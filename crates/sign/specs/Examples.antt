@@ -2,10 +2,9 @@
 use Prim.Native.Nat.{ℕ, zero, suc, _/_, _%_}
 use mathlib.Core.Path.{_≡_, refl}
 use mathlib.Core.List.{List, [], _∷_, _++_, map}
-use mathlib.Core.Bool.{true, false}
+use mathlib.Core.Bool.{Bool, true, false}
 use lib.ListN.{take}
 use Rattle.records.specs.Record.{littleAt, bodyLen, kindOf, whole, firstPiece, restLen, cutFrom, pieces}
-use Rattle.records.specs.declared.Config.{Config}
 use Rattle.records.specs.Config.{configOf, sizeOk, justOk, notZero, bitsOk, tagsOk, configOk, isConfig}
 use Rattle.sign.specs.Sign.{charactersOf, fontsOf, hasOption, pastOption, pastOptions, configIn, member, isFont, bitmapLen, isCharacter, Fine, FailsAt, faultFrom, firstFault, fault, Accepted, signFile}
 
@@ -40,6 +39,7 @@ board-p : signFile (config ++ font 1 ++ a ++ b ++ bracket)
       «off_time» = 0;
       tags = 134233320;
       capitals = false;
+      «long_times» = false;
     })
     (record {
       number = 1;
@@ -89,18 +89,28 @@ counts = refl
 empty : ℕ → List ℕ
 empty kind = 0 ∷ 0 ∷ kind ∷ 0 ∷ []
 
--- kind 4 directly after kind 1, with and without a font after it
--- then: kind 4 twice, after a font, after a character, first, with a body, cut short, and kinds 5 and 6
+-- kind 4, kind 5, and both in this order, directly after kind 1, with and without a font after them
 options : map fault
-    ((config ++ empty 4) ∷ (config ++ empty 4 ++ font 1 ++ a) ∷ (config ++ empty 4 ++ empty 4 ++ font 1) ∷ (config ++ font 1 ++ empty 4)
-    ∷ (config ++ font 1 ++ a ++ empty 4) ∷ (empty 4 ++ config) ∷ (config ++ 1 ∷ 0 ∷ 4 ∷ 0 ∷ 0 ∷ []) ∷ (config ++ 1 ∷ 0 ∷ 4 ∷ 0 ∷ [])
-    ∷ (config ++ take 3 (empty 4)) ∷ (config ++ empty 5) ∷ (config ++ empty 4 ++ empty 6) ∷ []) ≡ Fine ∷ Fine ∷ FailsAt 23 ∷ FailsAt 29 ∷ FailsAt 41
-    ∷ FailsAt 0 ∷ FailsAt 19 ∷ FailsAt 19 ∷ FailsAt 19 ∷ FailsAt 19 ∷ FailsAt 23 ∷ []
+    ((config ++ empty 4) ∷ (config ++ empty 5) ∷ (config ++ empty 4 ++ empty 5) ∷ (config ++ empty 4 ++ font 1 ++ a) ∷ (config ++ empty 5 ++ font 1)
+    ∷ (config ++ empty 4 ++ empty 5 ++ font 1) ∷ []) ≡ Fine ∷ Fine ∷ Fine ∷ Fine ∷ Fine ∷ Fine ∷ []
 unfolding fault firstFault pastOptions pastOption hasOption faultFrom isCharacter bitmapLen isFont member isConfig configOk tagsOk bitsOk notZero justOk
     sizeOk configOf pieces cutFrom restLen firstPiece whole kindOf bodyLen littleAt config font a empty
 options = refl
 
--- whether capitals stand in
-capitals : map (λ (c : Config). c .capitals) (configIn (pieces (config ++ font 1)) ∷ configIn (pieces (config ++ empty 4 ++ font 1)) ∷ []) ≡ false ∷ true ∷ []
-unfolding configIn hasOption configOf pieces cutFrom restLen firstPiece whole kindOf bodyLen littleAt config font empty
-capitals = refl
+-- kind 4 twice, kind 5 twice, kind 4 after kind 5, after a font, after a character, first, with a body, cut short twice, and kind 6
+no-options : map fault
+    ((config ++ empty 4 ++ empty 4 ++ font 1) ∷ (config ++ empty 4 ++ empty 5 ++ empty 5) ∷ (config ++ empty 5 ++ empty 4) ∷ (config ++ font 1 ++ empty 4)
+    ∷ (config ++ font 1 ++ a ++ empty 5) ∷ (empty 4 ++ config) ∷ (config ++ 1 ∷ 0 ∷ 4 ∷ 0 ∷ 0 ∷ []) ∷ (config ++ empty 4 ++ 1 ∷ 0 ∷ 5 ∷ 0 ∷ [])
+    ∷ (config ++ take 3 (empty 4)) ∷ (config ++ empty 4 ++ empty 6) ∷ []) ≡ FailsAt 23 ∷ FailsAt 27 ∷ FailsAt 23 ∷ FailsAt 29 ∷ FailsAt 41
+    ∷ FailsAt 0 ∷ FailsAt 19 ∷ FailsAt 23 ∷ FailsAt 19 ∷ FailsAt 23 ∷ []
+unfolding fault firstFault pastOptions pastOption hasOption faultFrom isCharacter bitmapLen isFont member isConfig configOk tagsOk bitsOk notZero justOk
+    sizeOk configOf pieces cutFrom restLen firstPiece whole kindOf bodyLen littleAt config font a empty
+no-options = refl
+
+-- whether capitals stand in, and whether times may be long
+abbrev flags : List ℕ → Bool × Bool
+flags options = ((configIn (pieces (config ++ options ++ font 1))) .capitals, (configIn (pieces (config ++ options ++ font 1))) .«long_times»)
+
+told : map flags ([] ∷ empty 4 ∷ empty 5 ∷ (empty 4 ++ empty 5) ∷ []) ≡ (false, false) ∷ (true, false) ∷ (false, true) ∷ (true, true) ∷ []
+unfolding configIn hasOption pastOption configOf pieces cutFrom restLen firstPiece whole kindOf bodyLen littleAt config font empty
+told = refl

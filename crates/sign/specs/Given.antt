@@ -41,6 +41,7 @@ noConfig =
       «off_time» = 0;
       tags = 0;
       capitals = false;
+      «long_times» = false;
     }
 
 -- an accepted file: its fonts stand first in the table

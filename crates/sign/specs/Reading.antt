@@ -58,7 +58,8 @@ givenFrom file from c =
 unfoldable pub givenAfter : List ℕ → ℕ → Config → SignFile
 givenAfter file from c =
     given
-    (answer (faultFrom [] NoFont (pastOptions (piecesAt file from))) (withOptions (hasOption 4 (piecesAt file from)) c) (fontsOf (piecesAt file from)))
+    (answer (faultFrom [] NoFont (pastOptions (piecesAt file from)))
+    (withOptions (hasOption 4 (piecesAt file from)) (hasOption 5 (pastOption 4 (piecesAt file from))) c) (fontsOf (piecesAt file from)))
 
 -- what `past_option` answers: where the records after an option start, or an offset itself if no such option is there
 pub record PastOption (file : List ℕ) (at option r : ℕ) : Type 0 where

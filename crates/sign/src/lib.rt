@@ -207,6 +207,7 @@ fn refused(at: usize) -> SignFile
         off_time: 0,
         tags: 0,
         capitals: false,
+        long_times: false,
     };
     SignFile {
         outcome: Outcome::RefusedAt(at),
@@ -276,7 +277,9 @@ fn read_options(file: &[u8], from: usize, c: Config) -> SignFile
     let mut config = c;
     let at = past_option(file, from, 4);
     config.capitals = from < at;
-    read_fonts(file, at, config)
+    let end = past_option(file, at, 5);
+    config.long_times = at < end;
+    read_fonts(file, end, config)
 }
 
 // The whole file.

@@ -2,6 +2,7 @@
 -- `upTo s`, `past s` and `holds s` speak of the first separator s in p, in either letter case (44 is the comma, 111 o, 116 t).
 use Prim.Native.Nat.{ℕ}
 use mathlib.Core.List.{List}
+use mathlib.Core.Bool.{Bool, true, false}
 use lib.Dec.{eqb}
 use lib.ListN.{length, getD, drop}
 use Rattle.base.specs.Pick.{pick}
@@ -47,11 +48,16 @@ justificationLine p = optional (justification 5 p) Bad λ j. Good (Justification
 unfoldable pub justificationPage : List ℕ → Parsed
 justificationPage p = optional (justification 4 p) Bad λ j. Good (JustificationPage j)
 
+-- the longest time: 8 bits, or where long times hold (document 02, A5) "[pt] takes 0 to 65,535 for each time"
+abbrev pub mostTime : Bool → ℕ
+mostTime false = 255
+mostTime true = 65535
+
 -- [ptxoy]: on time, off time, either may be missing
-unfoldable pub pageTime : List ℕ → Parsed
-pageTime p =
-    optional (readOptional 255 (upTo 111 p)) Bad λ on.
-    optional (readOptional 255 (past 111 p)) Bad λ off.
+unfoldable pub pageTime : Bool → List ℕ → Parsed
+pageTime long p =
+    optional (readOptional (mostTime long) (upTo 111 p)) Bad λ on.
+    optional (readOptional (mostTime long) (past 111 p)) Bad λ off.
     Good (PageTime on off)
 
 -- [pb], [pbn], [pbr,g,b]

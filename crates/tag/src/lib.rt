@@ -1,6 +1,7 @@
 // The tag parsers: the parse_ functions of multi.rs. Each takes the tag's bytes after its name.
 ghost use mathlib.Core.Path.{_≡_};
-ghost use Rattle.tag.specs.Tag.{newLine, newPage, font, justificationLine, justificationPage, pageTime, pageBackground, colorForeground, colorBackground, fourOf, fifth as fifthOf, colorRectangle, lastFour, textRectangle, spacingCharacter, hexadecimalCharacter, flashOn, flashOff, flashTime, field, pointOf, graphicAt, graphic, spacingCharacterEnd, flashEnd};
+ghost use Prim.Native.Nat.{_≤_};
+ghost use Rattle.tag.specs.Tag.{newLine, newPage, font, justificationLine, justificationPage, mostTime, pageTime, pageBackground, colorForeground, colorBackground, fourOf, fifth as fifthOf, colorRectangle, lastFour, textRectangle, spacingCharacter, hexadecimalCharacter, flashOn, flashOff, flashTime, field, pointOf, graphicAt, graphic, spacingCharacterEnd, flashEnd};
 ghost use Rattle.param.specs.Param.{colorOf, optionalVersion};
 ghost use Rattle.part.specs.Part.{past};
 use number::Number;
@@ -83,13 +84,24 @@ pub fn parse_justification_page(p: &[u8]) -> Parsed
     Parsed::Good(Value::JustificationPage(j))
 }
 
-pub fn parse_page_time(p: &[u8]) -> Parsed
-    ensures { λ r. ⌜ r ≡ pageTime (now (p .entry)) ⌝ }
+// The longest page time: long times may hold.
+fn most_time(long: bool) -> u32
+    ensures { λ r. ⌜ (r ≡ mostTime long) × (r ≤ 65535) ⌝ }
 {
-    let Optional::Read(on) = param::optional_before(p, b'o', 255) else {
+    if long {
+        return 65535;
+    }
+    255
+}
+
+pub fn parse_page_time(p: &[u8], long: bool) -> Parsed
+    ensures { λ r. ⌜ r ≡ pageTime long (now (p .entry)) ⌝ }
+{
+    let most = most_time(long);
+    let Optional::Read(on) = param::optional_before(p, b'o', most) else {
         return Parsed::Bad;
     };
-    let Optional::Read(off) = param::optional_after(p, b'o', 255) else {
+    let Optional::Read(off) = param::optional_after(p, b'o', most) else {
         return Parsed::Bad;
     };
     Parsed::Good(Value::PageTime(on, off))

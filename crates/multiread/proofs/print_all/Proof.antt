@@ -5,10 +5,10 @@ use Rattle.multiread.proofs.print_all.Statement.{statement}
 use Rattle.multiread.proofs.print_all.Tie as tie
 
 abbrev Inv-loop : tie.InvT-loop
-Inv-loop msg at₀ t4 t5 at = 0 ≤ at
+Inv-loop msg long at₀ t4 t5 at = 0 ≤ at
 
 abbrev μ-loop : tie.MeasureT-loop
-μ-loop msg at₀ t4 t5 at = length msg - at
+μ-loop msg long at₀ t4 t5 at = length msg - at
 
 pub print-all-spec : {M : Type 1} → statement M
 print-all-spec =

@@ -1,6 +1,7 @@
 use Prim.Native.Nat.{ℕ}
 use mathlib.Core.Path.{_≡_}
 use mathlib.Core.List.{List}
+use mathlib.Core.Bool.{Bool}
 use borrow.Author.Needs.{needs}
 use Rattle.tag.specs.declared.Parsed.{Parsed}
 use Rattle.parse.specs.declared.Name.{Name}
@@ -9,8 +10,8 @@ use Rattle.parse.proofs.by_name.Statement.{statement}
 use Rattle.parse.proofs.by_name.Tie as tie
 
 -- the value of a tag whose name is known
-told : (r : Parsed) (n m : Name) (end : ℕ) (p : List ℕ) → n ≡ m → r ≡ byName m end p → r ≡ byName n end p
-told r n m end p e f = rw e f
+told : (r : Parsed) (long : Bool) (n m : Name) (end : ℕ) (p : List ℕ) → n ≡ m → r ≡ byName long m end p → r ≡ byName long n end p
+told r long n m end p e f = rw e f
 
 pub by-name-spec : {M : Type 1} → statement M
 by-name-spec =
