@@ -342,10 +342,15 @@ def new_page(rest, _at):
     return nothing_after(rest, "NewPage")
 
 
-def page_time(rest, _at):
+def page_time(rest, _at, bits=8):
     parts = re.split(b"[oO]", rest, maxsplit=1)
-    on, off = optional(parts, 0), optional(parts, 1)
+    on, off = optional(parts, 0, bits), optional(parts, 1, bits)
     return Value("PageTime", option_of(on) + option_of(off), (on, off))
+
+
+def long_page_time(rest, at):
+    # A5: "[pt] takes 0 to 65,535 for each time"
+    return page_time(rest, at, 16)
 
 
 def spacing_character(rest, _at):
@@ -388,8 +393,9 @@ def tag_reader(tag):
     return None
 
 
-def read_value(message, start, length):
-    """The value of the slice at this place (`Value::try_from`), or a refusal 5, 6 or 7 with the slice's place."""
+def read_value(message, start, length, long_times=False):
+    """The value of the slice at this place (`Value::try_from`), or a refusal 5, 6 or 7 with the slice's place. A5: 'Reading is told
+    whether long times hold, and without them reads as before.'"""
     part = message[start:start + length]
     if part in (b"[[", b"]]"):
         return Value("Text", [start, 1], [part[0]])  # [[ and ]] print one bracket
@@ -398,6 +404,8 @@ def read_value(message, start, length):
         if found is None:
             raise Refusal(5, start, length)  # "no known tag"
         reader, name_length = found
+        if long_times and reader is page_time:
+            reader = long_page_time
         try:
             return reader(part[1 + name_length:-1], start + 1 + name_length)
         except BadParameter:
@@ -430,8 +438,9 @@ Sign = namedtuple("Sign", "width height char_width char_height font just_line ju
                           " options stand_ins")
 
 # A4: "an empty record of kind 4, directly after kind 1"
-CAPITALS = 4
-OPTIONS = (CAPITALS,)  # in the order that they have in a file
+# A5: "an empty record of kind 5, directly after kind 1, or after kind 4 if that is there"
+CAPITALS, LONG_TIMES = 4, 5
+OPTIONS = (CAPITALS, LONG_TIMES)  # in the order that they have in a file
 
 # "where only fo, hc, jl, jp, nl, np, pt, sc and tr may be set"
 ALLOWED_TAGS = sum(1 << BITS[name] for name in ("fo", "hc", "jl", "jp", "nl", "np", "pt", "sc", "tr"))
@@ -605,11 +614,11 @@ def text_width(sign, font, codes, spacing):
 Item = namedtuple("Item", "start length value refusal")  # a slice with its value, or with its refusal 5, 6 or 7
 
 
-def items_of(message):
+def items_of(message, long_times=False):
     items = []
     for start, length in slices(message):
         try:
-            items.append(Item(start, length, read_value(message, start, length), None))
+            items.append(Item(start, length, read_value(message, start, length, long_times), None))
         except Refusal as refusal:
             items.append(Item(start, length, None, refusal))
     return items
@@ -980,7 +989,7 @@ def listing_on(sign, message):
         check_message(message)            # 2, 3; 4 is of the lent slice, which these streams have not
         state = State(sign)
         times = (sign.on, sign.off)
-        for page in pages_of(items_of(message)):
+        for page in pages_of(items_of(message, LONG_TIMES in sign.options)):
             scan_page(sign, page)         # 5 to 7
             times = page_times(sign, page, times)
             answers.append(On(times[0], place_page(sign, page, state)))  # 6, 8 to 15
@@ -1006,13 +1015,13 @@ def number_answer(number):
     return ["0" if number is None else "1 %d" % number]
 
 
-def values_answer(message):
-    """The lines of a V case."""
+def values_answer(message, long_times=False):
+    """The lines of a V case, or of a T case, where long times hold (A5)."""
     try:
         check_message(message)
     except Refusal as refusal:
         return [refusal_line(refusal)]
-    items = items_of(message)
+    items = items_of(message, long_times)
     lines = [str(len(items))]
     for item in items:
         if item.refusal is not None:
@@ -1071,7 +1080,7 @@ def case_answer(words, sign_file):
     if kind == "D" and len(words) == 3 and words[1] in ("8", "16", "32"):
         data = unhex(words[2])
         return None if data is None else number_answer(read_decimal(data, int(words[1])))
-    if len(words) != 2 or kind not in ("X", "Q", "V", "L"):
+    if len(words) != 2 or kind not in ("X", "Q", "V", "T", "L"):
         return None
     data = unhex(words[1])
     if data is None:
@@ -1080,8 +1089,8 @@ def case_answer(words, sign_file):
         return number_answer(read_hexadecimal(data))
     if kind == "Q":
         return number_answer(read_version_id(data))
-    if kind == "V":
-        return values_answer(data)
+    if kind in ("V", "T"):
+        return values_answer(data, kind == "T")
     return listing_answer(sign_file, data)
 
 

@@ -521,6 +521,61 @@ class Capitals(unittest.TestCase):
         self.assertEqual(model.stand_ins(b"", b"ab"), set())
 
 
+class LongTimes(unittest.TestCase):
+    """Request A5 of document 02."""
+
+    def setUp(self):
+        self.board = configuration() + record(5, b"") + font()
+
+    def times(self, message, sign):
+        return [answer[:2] for answer in run(message, sign)]
+
+    def test_worked(self):
+        self.assertEqual(self.times("[pt600o65535]A", self.board), [("on", 600), ("off", 65535), ("end", 2)])
+        self.assertEqual(last("[pt65536]A", self.board), ("refused", 6, 0, 9, 0))
+        self.assertEqual(self.times("[pto0]A", self.board), [("on", 30), ("end", 1)])
+        self.assertEqual(last("[pt256]A"), ("refused", 6, 0, 7, 0))
+        self.assertEqual(self.times("[pt255o255]A", BOARD_P), [("on", 255), ("off", 255), ("end", 2)])
+        with self.assertRaises(model.Refusal) as caught:
+            model.read_sign_file(configuration() + record(5, b"") + record(4, b"") + font())
+        self.assertEqual((caught.exception.number, caught.exception.start), (1, 23))
+
+    def test_boundaries(self):
+        for message, times in (("[pt256]", (256, 0)), ("[pto256]", (30, 256)), ("[pt65535o1]", (65535, 1)), ("[pt+0000065535]", (65535, 0)),
+                               ("[pt0o65535]", (0, 65535)), ("[pt]", (30, 0)), ("[PT300O300]", (300, 300))):
+            wanted = [("on", times[0])] + ([("off", times[1])] if times[1] else [])
+            self.assertEqual(self.times(message, self.board)[:-1], wanted)
+        for message in ("[pto65536]", "[pt65536o1]", "[pt1o65536]", "[pt100000]", "[pt-1]", "[pt1o2o3]", "[pt256,1]"):
+            self.assertEqual(last(message, self.board), ("refused", 6, 0, len(message), 0))
+        for message in ("[pt256]", "[pto256]", "[pt1o256]", "[pt65535]"):
+            self.assertEqual(last(message), ("refused", 6, 0, len(message), 0))
+            # by position, before any placing
+            self.assertEqual(last("C[np]" + message, self.board), ("refused", 12, 0, 1, 67))
+            self.assertEqual(last("C" + message + "]", self.board), ("refused", 5, 1 + len(message), 1, 0))
+
+    def test_carrying_on(self):
+        self.assertEqual(self.times("[pt600o700]A[np]B[np][pt]A", self.board), [
+            ("on", 600), ("off", 700), ("on", 600), ("off", 700), ("on", 30), ("end", 5)])
+        # the defaults keep their byte
+        sign = configuration(on=255, off=255) + record(5, b"") + font()
+        self.assertEqual(self.times("[pt1000]A", sign), [("on", 1000), ("off", 255), ("end", 2)])
+        self.assertEqual(self.times("A", sign), [("on", 255), ("off", 255), ("end", 2)])
+
+    def test_with_capitals(self):
+        sign = configuration() + record(4, b"") + record(5, b"") + font()
+        self.assertEqual(run("[pt600]ab", sign), [("on", 600, [(7, 2, 0, 0, 13, 7, 1)]), ("end", 1)])
+
+    def test_reading(self):
+        """'Reading is told whether long times hold, and without them reads as before.'"""
+        for message, short, long in (("[pt256]", "0 6", "18 1 256 0 0"), ("[pt255o65535]", "0 6", "18 1 255 1 65535"),
+                                     ("[pt65536]", "0 6", "0 6"), ("[pto]", "18 0 0 0 0", "18 0 0 0 0"), ("[flt256]", "0 6", "0 6"),
+                                     ("[sc256]", "0 6", "0 6")):
+            for wanted, long_times in ((short, False), (long, True)):
+                numbers = wanted.split(" ") + ["0"] * (9 - len(wanted.split(" ")))
+                self.assertEqual(model.values_answer(message.encode(), long_times), ["1", "0 %d %s" % (len(message), " ".join(numbers))])
+        self.assertEqual(model.values_answer(b"\xff", True), ["4 3 0 0 0"])
+
+
 class SignFiles(unittest.TestCase):
     def refused(self, data, start):
         with self.assertRaises(model.Refusal) as caught:
@@ -557,7 +612,7 @@ class SignFiles(unittest.TestCase):
         self.refused(record(1, configuration()[4:] + b"\0"), 0)
         self.refused(font() + configuration(), 0)
         self.refused(configuration() + configuration(), 19)
-        for kind in (0, 5, 6, 7, 256, 257, 260, 65535):
+        for kind in (0, 6, 7, 256, 257, 260, 65535):
             self.refused(configuration() + record(kind, b""), 19)
 
     def test_options(self):
@@ -585,6 +640,18 @@ class SignFiles(unittest.TestCase):
             self.refused(first + option + first, 23)
             self.refused(first + option + record(3, b"A\0\0"), 23)
             self.refused(first + option + rest + b"\0", 68)
+
+    def test_order_of_options(self):
+        def joined(*kinds):
+            return configuration() + b"".join(record(kind, b"") for kind in kinds) + font()
+
+        self.assertEqual(model.read_sign_file(joined(4, 5)).options, [4, 5])
+        self.refused(joined(5, 4), 23)
+        self.refused(joined(4, 5, 4), 27)
+        self.refused(joined(4, 5, 5), 27)
+        self.refused(joined(4, 4, 5), 23)
+        self.refused(joined(4, 5, 6), 27)
+        self.refused(configuration() + record(4, b"") + font() + record(5, b""), 68)
 
     def test_fonts(self):
         self.refused(configuration() + record(2, [0, 7, 2, 3, 0, 0]), 19)
@@ -678,6 +745,11 @@ class Streams(unittest.TestCase):
             with self.assertRaises(model.StreamError):
                 self.answer(text)
         self.assertEqual(self.answer("kambelohi cases 1\nend 0\n"), ["kambelohi answers 1", "end 0"])
+
+    def test_long_times(self):
+        message = b"[pt256]".hex()
+        self.assertEqual(self.answer("kambelohi cases 1\nV %s\nT %s\nend 2\n" % (message, message)), [
+            "kambelohi answers 1", "V " + message, "1", "0 7 0 6 0 0 0 0 0 0 0", "T " + message, "1", "0 7 18 1 256 0 0 0 0 0 0", "end 2"])
 
 
 if __name__ == "__main__":
