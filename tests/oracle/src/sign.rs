@@ -19,9 +19,11 @@ const PIXELS_MAX: u16 = 4096;
 /// Most characters of a font
 const CHARACTERS_MAX: usize = 256;
 /// Kinds of the empty option records after kind 1, in their order
-const OPTIONS: [u16; 1] = [CAPITALS];
+const OPTIONS: [u16; 2] = [CAPITALS, LONG_TIMES];
 /// Kind of the record for capital-only fonts
 pub const CAPITALS: u16 = 4;
+/// Kind of the record for page times of 16 bits
+pub const LONG_TIMES: u16 = 5;
 /// Tags that a sign file may support
 const TAGS: [Tag; 9] = [
     Tag::Fo,

@@ -163,7 +163,8 @@ impl<W: Write> Answering<W> {
                 self.put(line)
             }
             ["I"] => self.version_ids(line),
-            ["V", hex] => {
+            // the Rust has no long times: T as V
+            ["V" | "T", hex] => {
                 let bytes = unhex(hex)?;
                 self.put_case(line)?;
                 self.values(&bytes)

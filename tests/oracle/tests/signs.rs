@@ -3,7 +3,9 @@
 mod common;
 
 use common::{board_p, record};
-use kambelohi_oracle::{Answer, CAPITALS, Sign, listing, version_ids};
+use kambelohi_oracle::{
+    Answer, CAPITALS, LONG_TIMES, Sign, listing, version_ids,
+};
 
 /// The refusal of a sign file, as a line
 fn refused(file: &[u8]) -> String {
@@ -90,30 +92,33 @@ fn options() {
     let file = board_p().file();
     let (first, rest) = file.split_at(19);
     let with = |parts: &[&[u8]]| refused(&parts.concat());
-    let option = record(CAPITALS, &[]);
-    let whole = [first, &option[..], rest].concat();
-    let sign = Sign::read(&whole).unwrap();
-    assert!(sign.has(CAPITALS) && !board_p().sign().has(CAPITALS));
-    // the Rust lists as without it
-    for message in ["AB", "ab", "A[nl]c"] {
-        assert_eq!(
-            listing(&whole, message.as_bytes()),
-            board_p().list(message)
-        );
+    for kind in [CAPITALS, LONG_TIMES] {
+        let option = record(kind, &[]);
+        let whole = [first, &option[..], rest].concat();
+        let sign = Sign::read(&whole).unwrap();
+        assert!(sign.has(kind) && !board_p().sign().has(kind));
+        // the Rust lists as without it
+        for message in ["AB", "ab", "A[nl]c", "[pt256]A", "[pt255]A"] {
+            let plain = board_p().list(message);
+            assert_eq!(listing(&whole, message.as_bytes()), plain);
+        }
+        assert_eq!(with(&[&option, first, rest]), "4 1 0 0 0");
+        assert_eq!(with(&[first, &option]), "accepted");
+        assert_eq!(with(&[first, &option, &option, rest]), "4 1 23 0 0");
+        assert_eq!(with(&[first, &record(kind, &[0]), rest]), "4 1 19 0 0");
+        assert_eq!(with(&[first, rest, &option]), "4 1 64 0 0");
+        assert_eq!(with(&[first, &rest[..10], &option]), "4 1 29 0 0");
+        assert_eq!(with(&[first, &option, first]), "4 1 23 0 0");
+        for n in 1..4 {
+            assert_eq!(with(&[first, &option[..n]]), "4 1 19 0 0");
+        }
     }
-    assert_eq!(with(&[&option, first, rest]), "4 1 0 0 0");
-    assert_eq!(with(&[first, &option]), "accepted");
-    assert_eq!(with(&[first, &option, &option, rest]), "4 1 23 0 0");
-    assert_eq!(with(&[first, &record(CAPITALS, &[0]), rest]), "4 1 19 0 0");
-    assert_eq!(with(&[first, rest, &option]), "4 1 64 0 0");
-    assert_eq!(with(&[first, &rest[..10], &option]), "4 1 29 0 0");
-    assert_eq!(with(&[first, &option, first]), "4 1 23 0 0");
-    for kind in [5, 6, 7, 260] {
+    for kind in [6, 7, 260] {
         assert_eq!(with(&[first, &record(kind, &[]), rest]), "4 1 19 0 0");
     }
-    for n in 1..4 {
-        assert_eq!(with(&[first, &option[..n]]), "4 1 19 0 0");
-    }
+    let (four, five) = (record(CAPITALS, &[]), record(LONG_TIMES, &[]));
+    assert_eq!(with(&[first, &four, &five, rest]), "accepted");
+    assert_eq!(with(&[first, &five, &four, rest]), "4 1 23 0 0");
 }
 
 #[test]
