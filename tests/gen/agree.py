@@ -38,6 +38,30 @@ def stands_in(words, sign, message):
     return int(words[4]) in model.stand_ins(sign, message)
 
 
+def long_time(message, start, length):
+    """Whether the slice at this place is a [pt] with a time above 255, which only long times take (A5)."""
+    try:
+        value = model.read_value(message, start, length, True)
+    except model.Refusal:
+        return False
+    return value.name == "PageTime" and max(time or 0 for time in value.data) > 255
+
+
+def waits_for_long_times(words, sign, message):
+    """Whether this is the refusal of a [pt] with a time above 255 on a file that takes it."""
+    if words is None or words[:2] != ["4", "6"] or "-" in words:
+        return False
+    return model.LONG_TIMES in options_of(sign) and long_time(message, int(words[2]), int(words[3]))
+
+
+def options_of(sign):
+    """The option records of a sign file; none where it is refused."""
+    try:
+        return model.read_sign_file(sign).options
+    except model.Refusal:
+        return []
+
+
 def compare_listings(one, other, message, sign):
     """None where they agree, a row of the table where one side has no answer, else False."""
     left, right = streams.steps(one), streams.steps(other)
@@ -54,6 +78,8 @@ def compare_listings(one, other, message, sign):
                 return (told(mine), told(others))
             if others and stands_in(mine, sign, message):
                 return ("refusal 12, a capital stands in", told(others))
+            if others and waits_for_long_times(mine, sign, message):
+                return ("refusal 6, a time above 255", told(others))
             if refuses_field_0(mine, message) and others and others[0] in ("4", "5"):
                 return ("passes over [f0], " + told(others), told(mine))
             if mine and mine[0] == "5" and others and others[0] == "4" and others[1] in INSTEAD:
@@ -62,7 +88,7 @@ def compare_listings(one, other, message, sign):
     return None
 
 
-def compare_values(one, other):
+def compare_values(one, other, message, long_times):
     if len(one) != len(other):
         return False
     stops = None
@@ -75,6 +101,9 @@ def compare_values(one, other):
                 if mine[2:4] == ["0", "0"] and others[2:4] == ["0", "6"]:
                     stops = ("value stops", "value " + " ".join(others[2:4]))
                     break
+                if long_times and mine[2:4] == ["0", "6"] and long_time(message, int(mine[0]), int(mine[1])):
+                    stops = ("value 0 6, a time above 255", "value " + others[2])
+                    break
             else:
                 return False
         else:
@@ -86,8 +115,8 @@ def compare_blocks(one, other):
     kind = one.line[0]
     if kind == "L":
         return compare_listings(one.answer, other.answer, streams.message_of(one.line), streams.message_of(one.sign))
-    if kind == "V":
-        return compare_values(one.answer, other.answer)
+    if kind in "VT":
+        return compare_values(one.answer, other.answer, streams.message_of(one.line), kind == "T")
     if one.answer == other.answer:
         return None
     return False

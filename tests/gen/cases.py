@@ -74,6 +74,10 @@ def value_case(rng):
     return "V " + word(messages.value_message(rng))
 
 
+def times_case(rng):
+    return "T " + word(messages.times_message(rng))
+
+
 def sign_block(rng, room):
     """An S line and some cases on it, as (line, is a case)."""
     way = rng.random()

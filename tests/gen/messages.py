@@ -660,6 +660,30 @@ class Maker:
         return getattr(self, self.rng.choices(styles, weights)[0])()
 
 
+def long_time(rng):
+    """What follows the name in a [pt], with times around the bounds of 8 and 16 bits."""
+    def part():
+        way = rng.random()
+        if way < 0.5:
+            return str(rng.choice((255, 256, 600, 65535, 65536)))
+        if way < 0.8:
+            return str(rng.choice((0, 1, 30, 254, 257, 1000, 9999, 65534, 65537, 70000, 100000, rng.randint(0, 65535))))
+        return rng.choice(("+", "0", "0000000", "+00")) + str(rng.choice((5, 255, 256, 65535, 65536)))
+    return rng.choice((part(), "o" + part(), part() + "o" + part(), part() + "O" + part(), part() + "o", "", "o", number(rng, 65535)))
+
+
+def times_message(rng):
+    """A message for a T case: [pt] with long times, among other tags and texts."""
+    pieces = []
+    for _ in range(rng.randint(1, 5)):
+        if rng.random() < 0.7:
+            pieces.append("[" + cased(rng, "pt" + long_time(rng)) + "]")
+        else:
+            pieces.append(rng.choice((any_tag, some_text, brackets))(rng))
+    data = "".join(pieces).encode()
+    return mutated(rng, data) if rng.random() < 0.1 else data
+
+
 class OptionMaker(Maker):
     """Makes messages for a sign with option records (document 02): those of Maker, of the characters that the fonts have or of those
     that can be typed, and messages about what the options change."""
@@ -690,9 +714,26 @@ class OptionMaker(Maker):
                 out.append(rng.choice((self.new_line(), self.set_just_line(), self.tag("np"))))
         return "".join(out).encode()
 
+    def times(self):
+        """Pages with times around the bounds of 8 and 16 bits."""
+        rng = self.rng
+        out = []
+        for page in range(rng.randint(1, 3)):
+            if page:
+                out.append(self.tag("np"))
+            out.append(self.words_of_any(rng.randint(0, 2)))
+            for _ in range(rng.choice((0, 1, 1, 2))):
+                out.append(self.tag("pt", long_time(rng)))
+        return "".join(out).encode()
+
+    def words_of_any(self, most):
+        """A few letters of the sign's own font."""
+        self.restart()
+        return self.words(self.sign.width, most)
+
     def message(self):
-        ways = [(Maker.message, self), (Maker.message, self.typed), (OptionMaker.small, self)]
-        way, maker = self.rng.choices(ways, (4, 4, 3))[0]
+        ways = [(Maker.message, self, 4), (Maker.message, self.typed, 4), (OptionMaker.small, self, 3), (OptionMaker.times, self, 3)]
+        way, maker, _ = self.rng.choices(ways, [weight for _, _, weight in ways])[0]
         return way(maker)
 
 

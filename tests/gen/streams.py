@@ -44,7 +44,7 @@ def blocks(lines):
             if text != "end %d" % count:
                 raise StreamError("line %d: wrong count, %d cases came" % (place, count))
             ended = True
-        elif text[:1] in ("D", "X", "Q", "I", "V", "L"):
+        elif text[:1] in ("D", "X", "Q", "I", "V", "T", "L"):
             line, answer, first = text, [], place
             count += 1
         else:
