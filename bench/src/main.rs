@@ -24,7 +24,7 @@ fn read_all(msg: &[u8]) -> usize {
     let mut at = 0;
     let mut count = 0;
     loop {
-        let a = read(msg, at);
+        let a = read(msg, at, false);
         if a.kind == 1 {
             return count;
         }

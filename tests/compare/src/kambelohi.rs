@@ -18,13 +18,14 @@ unsafe extern "C" {
         msg: *const u8,
         len: usize,
         offset: usize,
+        long_times: bool,
     ) -> ReadAnswer;
 }
 
-/// Read the slice at an offset of a message
-pub fn read(msg: &[u8], offset: usize) -> ReadAnswer {
+/// Read the slice at an offset of a message, and say whether long times hold
+pub fn read(msg: &[u8], offset: usize, long_times: bool) -> ReadAnswer {
     // The call takes any bytes, length and offset.
-    unsafe { kambelohi_read(msg.as_ptr(), msg.len(), offset) }
+    unsafe { kambelohi_read(msg.as_ptr(), msg.len(), offset, long_times) }
 }
 
 /// A span record, as `include/kambelohi.h` has it: kind, start, length, code,

@@ -5,12 +5,14 @@
 //! and a listing in which an option matters is passed over, and counted:
 //! - kind 4: a capital stands in. The Rust refuses the small letter with 12, and
 //!   the model, which has been compared before, answers otherwise.
+//! - kind 5: a time is above 255. The Rust refuses the [pt] with 6, and the model
+//!   answers otherwise.
 
 use crate::Fault;
 use crate::counts::ask_place;
 use crate::kambelohi::{ListAnswer, Span, list};
 use crate::stops::{EVERY, Why};
-use kambelohi_oracle::{Answer, CAPITALS, Record, Refusal, Sign};
+use kambelohi_oracle::{Answer, CAPITALS, LONG_TIMES, Record, Refusal, Sign};
 use std::collections::BTreeMap;
 
 /// Records that a lent slice must have
@@ -87,7 +89,10 @@ impl SignFile {
 }
 
 /// Kinds of option records, and where a listing is passed over
-const OPTIONS: [(u16, &str); 1] = [(CAPITALS, "a capital stands in")];
+const OPTIONS: [(u16, &str); 2] = [
+    (CAPITALS, "a capital stands in"),
+    (LONG_TIMES, "a time above 255"),
+];
 
 /// Listings on files with an option record of a kind: compared with the Rust,
 /// and passed over
@@ -256,21 +261,35 @@ fn differs(number: usize, want: &Answer, got: &ListAnswer) -> String {
     format!("answer {number}\nRust {want}\nhere {got:?}")
 }
 
+/// Whether a part of a message is a [pt]
+pub fn is_page_time(msg: &[u8], start: usize, length: usize) -> bool {
+    let tag = msg.get(start..start + length).unwrap_or_default();
+    tag.get(..3).is_some_and(|t| t.eq_ignore_ascii_case(b"[pt"))
+}
+
 /// The option that makes the Rust refuse where an answer is another
 fn passed_over(
     file: &SignFile,
+    msg: &[u8],
     want: &Answer,
     got: &ListAnswer,
 ) -> Option<u16> {
     let Answer::Refused(r) = want else {
         return None;
     };
+    let place = r.place.map(|(start, length)| (start as u16, length as u16));
     let same = got.kind == 4
         && got.number == u16::from(r.number)
-        && u32::from(got.detail) == r.detail;
+        && u32::from(got.detail) == r.detail
+        && place.is_none_or(|p| p == (got.start, got.length));
     let letter = (u32::from(b'a')..=u32::from(b'z')).contains(&r.detail);
-    (file.has(CAPITALS) && r.number == 12 && letter && !same)
-        .then_some(CAPITALS)
+    let time = r.place.is_some_and(|(s, n)| is_page_time(msg, s, n));
+    match r.number {
+        _ if same => None,
+        12 if letter && file.has(CAPITALS) => Some(CAPITALS),
+        6 if time && file.has(LONG_TIMES) => Some(LONG_TIMES),
+        _ => None,
+    }
 }
 
 /// Compare a whole listing with the Rust. On a file with options the answers
@@ -286,7 +305,7 @@ pub fn compare(
     for (number, want) in wanted.iter().enumerate() {
         spread.answers += 1;
         let got = ask(&file.bytes, msg, number, slice)?;
-        if let Some(option) = passed_over(file, want, &got) {
+        if let Some(option) = passed_over(file, msg, want, &got) {
             spread.count(file, Some(option));
             return Ok(());
         }

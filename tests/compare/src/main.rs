@@ -3,7 +3,10 @@
 //!
 //! For each V line: every slice of the message by the real `next_slice` and
 //! `Value::try_from` against `kambelohi_read` at its start; every other offset
-//! against the rules for offsets. For each L line: every answer of the real
+//! against the rules for offsets. This without long times, and with them, but
+//! for a [pt] that the Rust refuses. For each T line, which needs the model's
+//! answer: the same with long times, each value against the model's, and against
+//! the Rust's unless a time is above 255. For each L line: every answer of the real
 //! `Pages` with its records against `kambelohi_list` on a patterned slice, and
 //! so the model's answers; `kambelohi_place` against that, with the counts of
 //! the records; all of them together against `kambelohi_list_all`. Of sign files
@@ -12,7 +15,7 @@
 //! The first difference ends the run with 1, and its case is written to the
 //! file compare-failed.txt. Standard input is one stream or several, one
 //! after the other; one that is cut or damaged ends the run with 2, and so does
-//! a run without a V or L line. `--progress` tells how far the run is. With
+//! a run without a V, T or L line. `--progress` tells how far the run is. With
 //! `--every` the run ends with 1 where a value, a refusal, a stop of the Rust
 //! or a use of an option that can come does not.
 //!
@@ -28,8 +31,8 @@ mod stops;
 mod whole;
 
 use kambelohi::{ReadAnswer, Span, read};
-use kambelohi_oracle::values;
-use listings::SignFile;
+use kambelohi_oracle::{Item, values};
+use listings::{SignFile, is_page_time};
 use std::collections::BTreeMap;
 use std::io::BufRead;
 
@@ -44,6 +47,9 @@ struct Counts {
     stops: usize,
     codes: BTreeMap<(u32, u32), usize>,
     whole: BTreeMap<u8, usize>,
+    /// Messages of T lines, their slices that are the Rust's, and those with a
+    /// time above 255
+    long: (usize, usize, usize),
 }
 
 impl Counts {
@@ -59,6 +65,9 @@ impl Counts {
         all.extend(gone.map(|n| format!("a message refused with {n}")));
         if self.stops == 0 {
             all.push("a value where the Rust stops".to_string());
+        }
+        if self.long.1 == 0 || self.long.2 == 0 {
+            all.push("a [pt] with long times".to_string());
         }
         all
     }
@@ -95,56 +104,158 @@ fn end() -> ReadAnswer {
     }
 }
 
-fn expect(msg: &[u8], offset: usize, want: ReadAnswer) -> Result<(), String> {
-    let got = read(msg, offset);
+fn expect(
+    msg: &[u8],
+    offset: usize,
+    long: bool,
+    want: ReadAnswer,
+) -> Result<(), String> {
+    let got = read(msg, offset, long);
     if got == want {
         return Ok(());
     }
-    let hex: String = msg.iter().map(|b| format!("{b:02x}")).collect();
-    Err(format!("V {hex}\noffset {offset}\nRust {want:?}\nhere {got:?}"))
+    let at = format!("offset {offset}, long times {long}");
+    Err(format!("{at}\nwant {want:?}\nhere {got:?}"))
 }
 
-/// Compare all offsets of a message
+/// The answer to a slice, by the Rust; with 6 where it stops
+fn slice_answer(item: &Item) -> ReadAnswer {
+    let mut want = refused(0, item.start, item.length);
+    if item.code == 0 {
+        want.number = item.numbers[0];
+        if want.number == STOPS {
+            want.number = 6;
+        }
+    } else {
+        want.kind = 0;
+        want.code = item.code.into();
+        want.n.copy_from_slice(&item.numbers);
+    }
+    want
+}
+
+/// Offsets that are no slice's start: inside a character, the end, and past it
+fn compare_offsets(
+    msg: &[u8],
+    long: bool,
+    counts: &mut Counts,
+) -> Result<(), String> {
+    let ms = std::str::from_utf8(msg).expect("read by the Rust");
+    for offset in 0..msg.len() {
+        if !ms.is_char_boundary(offset) {
+            counts.offsets += 1;
+            expect(msg, offset, long, refused(4, 0, 0))?;
+        }
+    }
+    counts.offsets += 2;
+    expect(msg, msg.len(), long, end())?;
+    expect(msg, msg.len() + 1, long, refused(4, 0, 0))
+}
+
+/// A message that is refused as a whole
+fn compare_whole(
+    msg: &[u8],
+    long: bool,
+    number: u8,
+    counts: &mut Counts,
+) -> Result<(), String> {
+    for offset in [0, msg.len(), msg.len() + 1] {
+        counts.offsets += 1;
+        expect(msg, offset, long, refused(number.into(), 0, 0))?;
+    }
+    Ok(())
+}
+
+/// Compare all offsets of a message with the Rust, without long times, and with
+/// them but for a [pt] that it refuses
 fn compare(msg: &[u8], counts: &mut Counts) -> Result<(), String> {
     counts.messages += 1;
     let items = match values(msg) {
         Ok(items) => items,
         Err(r) => {
             *counts.whole.entry(r.number).or_default() += 1;
-            for offset in [0, msg.len(), msg.len() + 1] {
-                counts.offsets += 1;
-                expect(msg, offset, refused(r.number.into(), 0, 0))?;
-            }
-            return Ok(());
+            compare_whole(msg, false, r.number, counts)?;
+            return compare_whole(msg, true, r.number, counts);
         }
     };
     for item in &items {
         counts.slices += 1;
-        let mut want = refused(0, item.start, item.length);
-        if item.code == 0 {
-            want.number = item.numbers[0];
-            if want.number == STOPS {
-                counts.stops += 1;
-                want.number = 6;
-            }
-        } else {
-            want.kind = 0;
-            want.code = item.code.into();
-            want.n.copy_from_slice(&item.numbers);
-        }
+        counts.stops += usize::from(is_stop(item));
+        let want = slice_answer(item);
         *counts.codes.entry((want.code, want.number)).or_default() += 1;
-        expect(msg, item.start, want)?;
-    }
-    let ms = std::str::from_utf8(msg).expect("read by the Rust");
-    for offset in 0..msg.len() {
-        if !ms.is_char_boundary(offset) {
-            counts.offsets += 1;
-            expect(msg, offset, refused(4, 0, 0))?;
+        expect(msg, item.start, false, want)?;
+        if !is_page_time(msg, item.start, item.length) || item.code != 0 {
+            expect(msg, item.start, true, want)?;
         }
     }
-    counts.offsets += 2;
-    expect(msg, msg.len(), end())?;
-    expect(msg, msg.len() + 1, refused(4, 0, 0))
+    compare_offsets(msg, false, counts)?;
+    compare_offsets(msg, true, counts)
+}
+
+/// Whether the Rust stops at a slice
+fn is_stop(item: &Item) -> bool {
+    item.code == 0 && item.numbers[0] == STOPS
+}
+
+/// The answer to a slice, from the model's line: start, length, code and eight
+/// numbers, the first of which is the refusal of code 0
+fn model_slice(line: &str) -> Option<ReadAnswer> {
+    let words = line.split(' ').map(|n| n.parse().ok());
+    let words: Vec<u32> = words.collect::<Option<_>>()?;
+    let [start, length, code, n @ ..] = &words[..] else {
+        return None;
+    };
+    let item = Item {
+        start: *start as usize,
+        length: *length as usize,
+        code: u8::try_from(*code).ok()?,
+        numbers: n.to_vec(),
+    };
+    (n.len() == 8).then(|| slice_answer(&item))
+}
+
+/// Whether a value is a [pt] with a time above 255
+fn has_long_time(value: &ReadAnswer) -> bool {
+    value.code == 18 && value.n[1].max(value.n[3]) > 255
+}
+
+/// Compare all offsets of a message where long times hold with the model, and
+/// with the Rust but for times above 255
+fn compare_long(
+    msg: &[u8],
+    lines: &[String],
+    counts: &mut Counts,
+) -> Result<(), Fault> {
+    counts.long.0 += 1;
+    let no_answer = || Fault::stream("no answer of values");
+    let (head, lines) = lines.split_first().ok_or_else(no_answer)?;
+    let items = match values(msg) {
+        Ok(items) => items,
+        Err(r) => {
+            if *head != r.to_string() || !lines.is_empty() {
+                return Err(no_answer());
+            }
+            return compare_whole(msg, true, r.number, counts)
+                .map_err(Fault::Differs);
+        }
+    };
+    if *head != items.len().to_string() || lines.len() != items.len() {
+        return Err(no_answer());
+    }
+    for (item, line) in items.iter().zip(lines) {
+        let want = model_slice(line).ok_or_else(no_answer)?;
+        expect(msg, item.start, true, want).map_err(Fault::Differs)?;
+        let rust = slice_answer(item);
+        if want == rust {
+            counts.long.1 += 1;
+        } else if rust.number == 6 && has_long_time(&want) {
+            counts.long.2 += 1;
+        } else {
+            let said = format!("Rust {rust:?}\nmodel {want:?}");
+            return Err(Fault::Differs(said));
+        }
+    }
+    compare_offsets(msg, true, counts).map_err(Fault::Differs)
 }
 
 /// A stream of the one case that differs
@@ -258,6 +369,11 @@ impl Run {
             ("V", Some(msg)) => {
                 compare(&msg, &mut self.counts).map_err(Fault::Differs)
             }
+            ("T", Some(msg)) => {
+                let lines = case.answer.as_deref();
+                let lines = lines.ok_or(Fault::stream("no answer"))?;
+                compare_long(&msg, lines, &mut self.counts)
+            }
             ("L", Some(msg)) => self.list(&msg, case.answer.as_deref()),
             // numbers and version ids, which no call gives alone
             ("D" | "X" | "Q" | "I", _) => Ok(()),
@@ -335,8 +451,9 @@ impl Run {
         if self.stream.is_some() {
             return Err(Fault::stream("the stream has no end"));
         }
-        if self.counts.messages + self.spread.listings == 0 {
-            return Err(Fault::stream("no V or L line"));
+        let c = &self.counts;
+        if c.messages + c.long.0 + self.spread.listings == 0 {
+            return Err(Fault::stream("no V, T or L line"));
         }
         Ok(())
     }
@@ -351,6 +468,13 @@ impl Run {
                 "{} messages, {} slices, {} other offsets: none differs \
                  ({} where the Rust stops)",
                 c.messages, c.slices, c.offsets, c.stops
+            );
+        }
+        if c.long.0 > 0 {
+            println!(
+                "{} messages with long times: {} slices are the Rust's, {} have \
+                 a time above 255",
+                c.long.0, c.long.1, c.long.2
             );
         }
         if self.spread.listings > 0 {
