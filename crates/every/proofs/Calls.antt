@@ -108,14 +108,14 @@ module _ (file msg : List ℕ) (lent : ℕ → List Span) where
 
 data Ways (file msg : List ℕ) (a k : ℕ) (g : Gathered) : Type 0 where
   early : (x : Refusal) → g ≡ none-but x → (1026 ≤ a → 2048 ≤ k → admission file msg ≡ denied x) → Ways file msg a k g
-  walked : (c : Config) (fs : List Font) → admission file msg ≡ admitted c fs → g ≡ gather (pages (boardOf msg c fs) (items msg)) → Ways file msg a k g
+  walked : (c : Config) (fs : List Font) → admission file msg ≡ admitted c fs → g ≡ gather (pages (boardOf msg c fs) (items c msg)) → Ways file msg a k g
 
 ways : (file msg : List ℕ) (a k : ℕ) → Ways file msg a k (gathered file msg a k)
 unfolding gathered
 ways file msg a k = look (admission file msg) refl
   where
     room : (c : Config) (fs : List Font) → admission file msg ≡ admitted c fs → (t u : Bool) → ltb a 1026 ≡ t → ltb k 2048 ≡ u
-        → Ways file msg a k (pick t (none-but (refusal 4 0 0 0)) (pick u (none-but (refusal 4 0 0 0)) (gather (pages (boardOf msg c fs) (items msg)))))
+        → Ways file msg a k (pick t (none-but (refusal 4 0 0 0)) (pick u (none-but (refusal 4 0 0 0)) (gather (pages (boardOf msg c fs) (items c msg)))))
     room c fs e true u p q = early (refusal 4 0 0 0) refl (λ h j. absurd (omega (arith, ltb-true a 1026 p)))
     room c fs e false true p q = early (refusal 4 0 0 0) refl (λ h j. absurd (omega (arith, ltb-true k 2048 q)))
     room c fs e false false p q = walked c fs e refl
@@ -149,7 +149,7 @@ denied-answer file msg n lent r e = ap (λ (y : Admission). (resultOn y msg n (l
 
 module _ (file msg : List ℕ) (c : Config) (fs : List Font) (acc : admission file msg ≡ admitted c fs) where
   abbrev ps : List Page
-  ps = pages (boardOf msg c fs) (items msg)
+  ps = pages (boardOf msg c fs) (items c msg)
 
   result-is : (n : ℕ) (lent : List Span) → 1400 ≤ length lent → result file msg n (length lent) ≡ numbered 0 ps n
   unfolding result
@@ -259,7 +259,7 @@ module _ (file msg : List ℕ) (ys : List Shown) (zs : List Span) where
   calls-on : (N K : ℕ) → Ended N K → Ways file msg (length ys) (length zs) g → AsCalled file msg (answersAfter file msg ys zs) (recordsAfter file msg ys zs) N K
   calls-on N K e (early x p f) = absurd (let q : none ≡ some x = sym (e .fine) ∙ ap (λ (y : Gathered). y .refusal) p in let z : _≡_ {A = ℕ} 0 1 = cc in omega arith)
   calls-on N K e (walked c fs acc p) =
-      let l : List Page = pages (boardOf msg c fs) (items msg) in
+      let l : List Page = pages (boardOf msg c fs) (items c msg) in
       let o : refusalIn l ≡ none = sym (ap (λ (y : Gathered). y .refusal) p) ∙ e .fine in
       let u : answersAfter file msg ys zs ≡ over (answersIn 0 l) ys =
       answers-is ∙ ap (λ (r : Option Refusal). over (unlessRefused r (g .answers)) ys) (e .fine) ∙ ap (λ (y : Gathered). over (y .answers) ys) p in
@@ -281,7 +281,7 @@ module _ (file msg : List ℕ) (ys : List Shown) (zs : List Span) where
         refuses = denied-answer file msg 0 (lent 0) y (f h j) ∙ ap RefusedAnswer q′;
       }
   refused-on x e h j lent r (walked c fs acc p) =
-      let l : List Page = pages (boardOf msg c fs) (items msg) in
+      let l : List Page = pages (boardOf msg c fs) (items c msg) in
       record {
         at = length (answersIn 0 l);
         shows = λ n m. call-shows file msg c fs acc n (lent n) (r n) m;

@@ -36,7 +36,7 @@ use Rattle.layout.specs.Placing.{passRecords, recordOf}
 use Rattle.layout.specs.Read.{Scan, Event, pass, close, stop, opening, events}
 use Rattle.layout.specs.Listing.{Page, on, off, refused, stopAt, offs, passStop, walk, pages}
 use Rattle.layout.specs.Demand.{Role, text, hexadecimal, rectangle, pageJust, newPage, other, roleIn}
-use Rattle.layout.specs.Bounds.{breaks, pageBreaks}
+use Rattle.layout.specs.Bounds.{breaks}
 use Rattle.layout.proofs.Cover.{ReadAs, ends, refuses, goes, emits, cuts as cut-off, turns, fails, EventsAs, refused-at-once, begun, events-as, entries}
 use Rattle.layout.proofs.Items.{okays, reads-okay, items-honest, items-few}
 use Rattle.layout.proofs.Room.{map-length}
@@ -50,12 +50,17 @@ closes (pass r es ∷ evs) = closes evs
 closes (close a b ∷ evs) = suc (closes evs)
 closes (stop x ∷ evs) = closes evs
 
+-- the items that are [np]
+abbrev breaksOf : List Item → ℕ
+breaksOf [] = 0
+breaksOf (it ∷ its) = breaks (roleIn (it .says)) + breaksOf its
+
 record FewIn (spans ends : ℕ) (l : List Event) : Type 0 where
   entered : length (entries l) ≤ spans
   closed : closes l ≤ ends
 
 read-few : {s : Config} {its : List Item} {st : RenderState} {acc : List Entry} {l : List Event} → ReadAs s its st acc l
-    → FewIn (length acc + okays its) (pageBreaks its) l
+    → FewIn (length acc + okays its) (breaksOf its) l
 read-few (ends {acc = acc}) = record { entered = omega (arith, length-append acc []); closed = omega arith }
 read-few (refuses f) = record { entered = omega arith; closed = omega arith }
 read-few (goes f q r) = record { entered = omega (arith, (read-few r) .entered); closed = omega (arith, (read-few r) .closed) }
@@ -70,7 +75,7 @@ read-few (turns {acc = acc} {l = l} f q r) =
     record { entered = omega (arith, (read-few r) .entered, length-append acc (entries l)); closed = omega (arith, ap breaks q, (read-few r) .closed) }
 read-few (fails {acc = acc} f q x y e) = record { entered = omega (arith, length-append acc []); closed = omega (arith, ap breaks q) }
 
-events-few : {s : Config} {its : List Item} {l : List Event} → EventsAs s its l → FewIn (okays its) (pageBreaks its) l
+events-few : {s : Config} {its : List Item} {l : List Event} → EventsAs s its l → FewIn (okays its) (breaksOf its) l
 events-few (refused-at-once a b e) = record { entered = omega arith; closed = omega arith }
 events-few (begun r) = record { entered = omega (arith, (read-few r) .entered); closed = (read-few r) .closed }
 
@@ -131,12 +136,13 @@ turned p = breaks (roleIn (parsedItem p))
 alone : (a b c : ℕ) → 0 < c → c < 256 → eqb (pair a 0) (pair b c) ≡ false
 alone a b c h k = ne-eqb (pair a 0) (pair b c) (λ e. omega (arith, e))
 
-no-turn : (end x : ℕ) (t u v : Bool) → turned (byName (pick t F (pick u G (pick v Other Other))) end (drop (nameLen (pick t F (pick u G (pick v Other Other)))) (x ∷ []))) ≡ 0
+no-turn : (long : Bool) (end x : ℕ) (t u v : Bool)
+    → turned (byName long (pick t F (pick u G (pick v Other Other))) end (drop (nameLen (pick t F (pick u G (pick v Other Other)))) (x ∷ []))) ≡ 0
 unfolding field graphic number readNumber readDigits upTo
-no-turn end x true u v = refl
-no-turn end x false true v = refl
-no-turn end x false false true = refl
-no-turn end x false false false = refl
+no-turn long end x true u v = refl
+no-turn long end x false true v = refl
+no-turn long end x false false true = refl
+no-turn long end x false false false = refl
 
 name-alone : (a : ℕ) → nameBy a 0 0 ≡ pick (eqb a 102) F (pick (eqb a 103) G (pick (eqb a 47) Other Other))
 unfolding nameBy firstName endName
@@ -160,25 +166,25 @@ name-alone a =
       alone a 109 115 (omega arith) (omega arith),
     )
 
-short-tag : (end : ℕ) (l : List ℕ) → length l ≤ 1 → turned (tagValue end l) ≡ 0
+short-tag : (long : Bool) (end : ℕ) (l : List ℕ) → length l ≤ 1 → turned (tagValue long end l) ≡ 0
 unfolding tagValue nameOf lower
-short-tag end [] h = unfold nameBy firstName endName in refl
-short-tag end (x ∷ []) h =
-    ap (λ (n : Name). turned (byName n end (drop (nameLen n) (x ∷ [])))) (name-alone (lower x)) ∙ no-turn end x (eqb (lower x) 102) (eqb (lower x) 103) (eqb (lower x) 47)
-short-tag end (x ∷ y ∷ l) h = absurd (omega arith)
+short-tag long end [] h = unfold nameBy firstName endName in refl
+short-tag long end (x ∷ []) h =
+    ap (λ (n : Name). turned (byName long n end (drop (nameLen n) (x ∷ [])))) (name-alone (lower x)) ∙ no-turn long end x (eqb (lower x) 102) (eqb (lower x) 103) (eqb (lower x) 47)
+short-tag long end (x ∷ y ∷ l) h = absurd (omega arith)
 
-module _ (at : ℕ) (s : List ℕ) where
-  tag-four : 4 * breaks (roleIn (tagItem at s)) ≤ length s
+module _ (long : Bool) (at : ℕ) (s : List ℕ) where
+  tag-four : 4 * breaks (roleIn (tagItem long at s)) ≤ length s
   unfolding tagItem
   tag-four = look (leb 2 (length s)) (leb 4 (length s)) refl
     where
-      look : (t u : Bool) → leb 4 (length s) ≡ u → 4 * breaks (roleIn (pick t (parsedItem (tagValue (at + (length s - 1)) (take (length s - 1 - 1) (drop 1 s)))) (Fails 5))) ≤ length s
+      look : (t u : Bool) → leb 4 (length s) ≡ u → 4 * breaks (roleIn (pick t (parsedItem (tagValue long (at + (length s - 1)) (take (length s - 1 - 1) (drop 1 s)))) (Fails 5))) ≤ length s
       look false u q = omega arith
-      look true true q = omega (arith, leb-true 4 (length s) q, breaks-le (roleIn (parsedItem (tagValue (at + (length s - 1)) (take (length s - 1 - 1) (drop 1 s))))))
+      look true true q = omega (arith, leb-true 4 (length s) q, breaks-le (roleIn (parsedItem (tagValue long (at + (length s - 1)) (take (length s - 1 - 1) (drop 1 s))))))
       look true false q =
           omega (
             arith,
-            short-tag (at + (length s - 1)) (take (length s - 1 - 1) (drop 1 s))
+            short-tag long (at + (length s - 1)) (take (length s - 1 - 1) (drop 1 s))
                 (omega (arith, length-take (length s - 1 - 1) (drop 1 s), leb-false 4 (length s) q)),
           )
 
@@ -190,13 +196,13 @@ module _ (at : ℕ) (s : List ℕ) where
       look true = refl
       look false = refl
 
-  shape-four : (sh : Shape) → 4 * breaks (roleIn (shapeItem sh at s)) ≤ length s
+  shape-four : (sh : Shape) → 4 * breaks (roleIn (shapeItem long sh at s)) ≤ length s
   shape-four Bracket = omega arith
   shape-four Tag = tag-four
   shape-four Stray = omega arith
   shape-four TextShape = omega (arith, text-four)
 
-  item-four : 4 * breaks (roleIn (itemOf at s)) ≤ length s
+  item-four : 4 * breaks (roleIn (itemOf long at s)) ≤ length s
   unfolding itemOf
   item-four = shape-four (shapeOf s)
 
@@ -204,34 +210,34 @@ rest-le : (b : ℕ) (l : List ℕ) → restLen b l ≤ length l
 unfolding sliceLen
 rest-le b l = omega (arith, slice-le (b ∷ l))
 
-cuts-four : (at k : ℕ) (l : List ℕ) → k ≤ length l → 4 * pageBreaks (map itemAt (cuts at k l)) + k ≤ length l
-cuts-four at k [] h = omega arith
-cuts-four at zero (b ∷ l) h =
+cuts-four : (c : Config) (at k : ℕ) (l : List ℕ) → k ≤ length l → 4 * breaksOf (map (itemAt c) (cuts at k l)) + k ≤ length l
+cuts-four c at k [] h = omega arith
+cuts-four c at zero (b ∷ l) h =
     let r : List ℕ = take (restLen b l) l in
-    omega (arith, item-four at (b ∷ r), length-take (restLen b l) l, rest-le b l, cuts-four (suc at) (restLen b l) l (rest-le b l))
-cuts-four at (suc k) (b ∷ l) h = omega (arith, cuts-four (suc at) k l (omega arith))
+    omega (arith, item-four (c .«long_times») at (b ∷ r), length-take (restLen b l) l, rest-le b l, cuts-four c (suc at) (restLen b l) l (rest-le b l))
+cuts-four c at (suc k) (b ∷ l) h = omega (arith, cuts-four c (suc at) k l (omega arith))
 
-items-four : (msg : List ℕ) → 4 * pageBreaks (items msg) ≤ length msg
+items-four : (c : Config) (msg : List ℕ) → 4 * breaksOf (items c msg) ≤ length msg
 unfolding items slices
-items-four msg = omega (arith, cuts-four 0 0 msg (omega arith))
+items-four c msg = omega (arith, cuts-four c 0 0 msg (omega arith))
 
 -- ---- the answers and records of a message
 
 module _ (msg : List ℕ) (s : Board) where
   abbrev evs : List Event
-  evs = events (s .config) (items msg)
+  evs = events (s .config) (items (s .config) msg)
 
-  events-in : FewIn (okays (items msg)) (pageBreaks (items msg)) evs
-  events-in = events-few (events-as (s .config) (items msg) (items-honest msg))
+  events-in : FewIn (okays (items (s .config) msg)) (breaksOf (items (s .config) msg)) evs
+  events-in = events-few (events-as (s .config) (items (s .config) msg) (items-honest (s .config) msg))
 
-  pages-few : FewOf (2 * suc (closes evs)) (length (entries evs)) 0 (pages s (items msg))
+  pages-few : FewOf (2 * suc (closes evs)) (length (entries evs)) 0 (pages s (items (s .config) msg))
   unfolding pages
   pages-few =
-      let o : Scan = opening (s .config) (items msg) in
+      let o : Scan = opening (s .config) (items (s .config) msg) in
       more _ _ _ _ 0 _ (omega arith) (omega arith) (walk-few s evs (o .on) (o .off) [] 0 0)
 
-  pub answers-few : length msg ≤ 2048 → length (answersIn 0 (pages s (items msg))) ≤ 1026
-  answers-few h = omega (arith, pages-few .answered, events-in .closed, items-four msg)
+  pub answers-few : length msg ≤ 2048 → length (answersIn 0 (pages s (items (s .config) msg))) ≤ 1026
+  answers-few h = omega (arith, pages-few .answered, events-in .closed, items-four (s .config) msg)
 
-  pub records-few : length (recordsIn (pages s (items msg))) ≤ length msg
-  records-few = omega (arith, pages-few .recorded, events-in .entered, items-few msg)
+  pub records-few : length (recordsIn (pages s (items (s .config) msg))) ≤ length msg
+  records-few = omega (arith, pages-few .recorded, events-in .entered, items-few (s .config) msg)

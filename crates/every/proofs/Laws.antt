@@ -273,10 +273,10 @@ pub record Walking (file : List ℕ) (table : SignFile) (msg rows₀ all₀ rows
   pub rowed : length rows ≡ length rows₀
   pub long : length all ≡ length all₀
   pub answers : shownsOf all i ++ answersIn n (todo (boardIn file msg (table .config)) msg p)
-      ≡ answersIn 0 (pages (boardIn file msg (table .config)) (items msg))
+      ≡ answersIn 0 (pages (boardIn file msg (table .config)) (items (table .config) msg))
   pub records : spansOf (drop recordsFrom all) n ++ recordsIn (todo (boardIn file msg (table .config)) msg p)
-      ≡ recordsIn (pages (boardIn file msg (table .config)) (items msg))
-  pub refusal : refusalIn (todo (boardIn file msg (table .config)) msg p) ≡ refusalIn (pages (boardIn file msg (table .config)) (items msg))
+      ≡ recordsIn (pages (boardIn file msg (table .config)) (items (table .config) msg))
+  pub refusal : refusalIn (todo (boardIn file msg (table .config)) msg p) ≡ refusalIn (pages (boardIn file msg (table .config)) (items (table .config) msg))
 
 pub walk-start : {file : List ℕ} {table : SignFile} {msg rows all : List ℕ} {p : Pages} → WalkAsked file table msg rows all → p ≡ firstOf (table .config)
     → Walking file table msg rows all rows all p 0 0
@@ -370,7 +370,7 @@ module _ {file : List ℕ} {table : SignFile} {msg rows₀ all₀ rows all : Lis
     ends-so r a k f =
         record {
           ends =
-              told-as (walkedTo i n r) (pages s (items msg))
+              told-as (walkedTo i n r) (pages s (items (s .config) msg))
               (answers-stay ∙ sym (append-nil (shownsOf all i)) ∙ ap (λ (x : List Shown). shownsOf all i ++ x) (sym a) ∙ z .answers)
               (records-stay ∙ sym (append-nil (spansOf (drop recordsFrom all) n)) ∙ ap (λ (x : List Span). spansOf (drop recordsFrom all) n ++ x) (sym k)
               ∙ z .records)
@@ -423,7 +423,7 @@ module _ {file : List ℕ} {table : SignFile} {msg rows₀ all₀ rows all : Lis
 
       -- it is put
       module _ {a : Shown} {all″ : List ℕ} (is : a ≡ shownBy x n) (w : ShownPut all′ i a all″) where
-        put-answers : shownsOf all″ (i + 1) ++ answersIn (n + a .count) (todo s msg q) ≡ answersIn 0 (pages s (items msg))
+        put-answers : shownsOf all″ (i + 1) ++ answersIn (n + a .count) (todo s msg q) ≡ answersIn 0 (pages s (items (s .config) msg))
         put-answers =
             ap (λ (y : List Shown). y ++ answersIn (n + a .count) (todo s msg q)) (w .put)
             ∙ append-assoc (shownsOf all′ i) (a ∷ []) (answersIn (n + a .count) (todo s msg q))
@@ -432,7 +432,7 @@ module _ {file : List ℕ} {table : SignFile} {msg rows₀ all₀ rows all : Lis
             ∙ ap (λ (y : List Shown). y ++ answersIn n left) answers-stay
             ∙ z .answers
 
-        put-records : spansOf (drop recordsFrom all″) (n + a .count) ++ recordsIn (todo s msg q) ≡ recordsIn (pages s (items msg))
+        put-records : spansOf (drop recordsFrom all″) (n + a .count) ++ recordsIn (todo s msg q) ≡ recordsIn (pages s (items (s .config) msg))
         put-records =
             ap (λ (y : List ℕ). spansOf y (n + a .count) ++ recordsIn (todo s msg q)) (w .kept)
             ∙ ap (λ (y : Shown). spansOf (drop recordsFrom all′) (n + y .count) ++ recordsIn (todo s msg q)) is
@@ -498,7 +498,7 @@ module _ (file msg : List ℕ) {x : Admitted} (e : x ≡ handed (admission file 
     call-gathered {a} {k} d =
         let o : Opens file msg (x .table) = opens file msg e h in
         let after : Board → Gathered =
-        λ y. pick (ltb a 1026) (none-but (refusal 4 0 0 0)) (pick (ltb k 2048) (none-but (refusal 4 0 0 0)) (gather (pages y (items msg)))) in
+        λ y. pick (ltb a 1026) (none-but (refusal 4 0 0 0)) (pick (ltb k 2048) (none-but (refusal 4 0 0 0)) (gather (pages y (items (x .table .config) msg)))) in
         record {
           ends =
               d .ends ∙ ap after (board-is file msg (x .table .config) (o .fs) (o .admits-it .sign))
@@ -532,15 +532,15 @@ unless-le none l = omega arith
 unless-le (some r) l = omega arith
 
 pub gathered-fits : (file msg : List ℕ) (a k : ℕ) → Fits a k msg (gathered file msg a k)
-unfolding gathered
+unfolding gathered boardOf
 gathered-fits file msg a k = look (admission file msg) refl
   where
     room : (c : Config) (fs : List Font) → length msg ≤ 2048 → (t u : Bool) → ltb a 1026 ≡ t → ltb k 2048 ≡ u
-        → Fits a k msg (pick t (none-but (refusal 4 0 0 0)) (pick u (none-but (refusal 4 0 0 0)) (gather (pages (boardOf msg c fs) (items msg)))))
+        → Fits a k msg (pick t (none-but (refusal 4 0 0 0)) (pick u (none-but (refusal 4 0 0 0)) (gather (pages (boardOf msg c fs) (items c msg)))))
     room c fs h true u p q = none-fits a k msg (refusal 4 0 0 0)
     room c fs h false true p q = none-fits a k msg (refusal 4 0 0 0)
     room c fs h false false p q =
-        let g : Gathered = gather (pages (boardOf msg c fs) (items msg)) in
+        let g : Gathered = gather (pages (boardOf msg c fs) (items c msg)) in
         let m : length (g .answers) ≤ 1026 = answers-few msg (boardOf msg c fs) h in
         let n : length (g .records) ≤ length msg = records-few msg (boardOf msg c fs) in
         record {

@@ -63,7 +63,7 @@ gatheredOn (denied r) msg a k = none-but r
 gatheredOn (admitted c fs) msg a k =
     pick (ltb a 1026) (none-but (refusal 4 0 0 0))
     (pick (ltb k 2048) (none-but (refusal 4 0 0 0))
-    (gather (pages (boardOf msg c fs) (items msg))))
+    (gather (pages (boardOf msg c fs) (items c msg))))
 
 -- sign file, message, and how many answers and records are lent
 unfoldable pub gathered : List ℕ → List ℕ → ℕ → ℕ → Gathered

@@ -99,14 +99,14 @@ told r l = record { answers = shownsOf l (r .answers); records = spansOf (drop r
 
 -- all that there is was gathered; all was there before it, and all′ is after it
 pub record Walks (file : List ℕ) (table : SignFile) (msg all all′ : List ℕ) (r : Walked) : Type 0 where
-  pub ends : told r all′ ≡ gather (pages (boardIn file msg (table .config)) (items msg))
+  pub ends : told r all′ ≡ gather (pages (boardIn file msg (table .config)) (items (table .config) msg))
   pub long : length all′ ≡ length all
 
 -- the same with a answers and k records lent
 pub record WalksWith (file : List ℕ) (table : SignFile) (msg : List ℕ) (a k : ℕ) (all all′ : List ℕ) (r : Walked) : Type 0 where
   pub ends : told r all′
       ≡ pick (ltb a 1026) (none-but (refusal 4 0 0 0))
-      (pick (ltb k 2048) (none-but (refusal 4 0 0 0)) (gather (pages (boardIn file msg (table .config)) (items msg))))
+      (pick (ltb k 2048) (none-but (refusal 4 0 0 0)) (gather (pages (boardIn file msg (table .config)) (items (table .config) msg))))
   pub long : length all′ ≡ length all
 
 -- ---- the call
