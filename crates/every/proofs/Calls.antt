@@ -37,7 +37,8 @@ record Tells (r : Result) (s : Shown) (xs : List Span) : Type 0 where
   answer : r .answer ≡ answerTold s
   written : r .written ≡ recordsTold s xs
 
-tells-on : (d : ℕ) (rs xs zs : List Span) (n : ℕ) → length xs ≡ n → Tells (record { answer = On d (length rs); written = rs }) (shown 1 d n (length rs)) (xs ++ (rs ++ zs))
+tells-on : (d : ℕ) (rs xs zs : List Span) (n : ℕ) → length xs ≡ n
+    → Tells (record { answer = On d (length rs); written = rs }) (shown 1 d n (length rs)) (xs ++ (rs ++ zs))
 tells-on d rs xs zs n e = record { answer = refl; written = sym (ap (take (length rs)) (drop-at xs (rs ++ zs) n e) ∙ take-append-seam rs zs) }
 
 -- answer n of the pages l, whose records stand behind xs
@@ -58,7 +59,8 @@ tells-at c k (refused r ∷ l) xs n e h = absurd (omega arith)
 last-end : (c : ℕ) (l : List Page) → refusalIn l ≡ none → (k : ℕ) → (numbered c l (length (answersIn k l))) .answer ≡ End (c + length (answersIn k l))
 last-end c [] e k = ap End (sym (add-zero c))
 last-end c (on d rs ∷ l) e k =
-    last-end (suc c) l e (k + length rs) ∙ ap End (let q : suc c + length (answersIn (k + length rs) l) ≡ c + suc (length (answersIn (k + length rs) l)) = omega arith in q)
+    last-end (suc c) l e (k + length rs)
+    ∙ ap End (let q : suc c + length (answersIn (k + length rs) l) ≡ c + suc (length (answersIn (k + length rs) l)) = omega arith in q)
 last-end c (off d ∷ l) e k =
     last-end (suc c) l e k ∙ ap End (let q : suc c + length (answersIn k l) ≡ c + suc (length (answersIn k l)) = omega arith in q)
 last-end c (refused r ∷ l) e k = absurd (let z : _≡_ {A = ℕ} 0 1 = cc in omega arith)
@@ -257,7 +259,8 @@ module _ (file msg : List ℕ) (ys : List Shown) (zs : List Span) where
   stopped x e = stopped-on (g .refusal) (length (g .answers)) (length (g .records)) x (sym counts-is ∙ e)
 
   calls-on : (N K : ℕ) → Ended N K → Ways file msg (length ys) (length zs) g → AsCalled file msg (answersAfter file msg ys zs) (recordsAfter file msg ys zs) N K
-  calls-on N K e (early x p f) = absurd (let q : none ≡ some x = sym (e .fine) ∙ ap (λ (y : Gathered). y .refusal) p in let z : _≡_ {A = ℕ} 0 1 = cc in omega arith)
+  calls-on N K e (early x p f) =
+      absurd (let q : none ≡ some x = sym (e .fine) ∙ ap (λ (y : Gathered). y .refusal) p in let z : _≡_ {A = ℕ} 0 1 = cc in omega arith)
   calls-on N K e (walked c fs acc p) =
       let l : List Page = pages (boardOf msg c fs) (items c msg) in
       let o : refusalIn l ≡ none = sym (ap (λ (y : Gathered). y .refusal) p) ∙ e .fine in
@@ -265,7 +268,8 @@ module _ (file msg : List ℕ) (ys : List Shown) (zs : List Span) where
       answers-is ∙ ap (λ (r : Option Refusal). over (unlessRefused r (g .answers)) ys) (e .fine) ∙ ap (λ (y : Gathered). over (y .answers) ys) p in
       let v : recordsAfter file msg ys zs ≡ over (recordsIn l) zs =
       records-is ∙ ap (λ (r : Option Refusal). over (unlessRefused r (g .records)) zs) (e .fine) ∙ ap (λ (y : Gathered). over (y .records) zs) p in
-      subst (λ (n : ℕ). AsCalled file msg (answersAfter file msg ys zs) (recordsAfter file msg ys zs) n K) (ap (λ (y : Gathered). length (y .answers)) (sym p) ∙ e .answers)
+      subst (λ (n : ℕ). AsCalled file msg (answersAfter file msg ys zs) (recordsAfter file msg ys zs) n K)
+      (ap (λ (y : Gathered). length (y .answers)) (sym p) ∙ e .answers)
       (subst (AsCalled file msg (answersAfter file msg ys zs) (recordsAfter file msg ys zs) (length (answersIn 0 l)))
       (ap (λ (y : Gathered). length (y .records)) (sym p) ∙ e .records)
       (as-called file msg c fs acc (answersAfter file msg ys zs) (recordsAfter file msg ys zs) ys zs u v o))

@@ -170,7 +170,8 @@ short-tag : (long : Bool) (end : ℕ) (l : List ℕ) → length l ≤ 1 → turn
 unfolding tagValue nameOf lower
 short-tag long end [] h = unfold nameBy firstName endName in refl
 short-tag long end (x ∷ []) h =
-    ap (λ (n : Name). turned (byName long n end (drop (nameLen n) (x ∷ [])))) (name-alone (lower x)) ∙ no-turn long end x (eqb (lower x) 102) (eqb (lower x) 103) (eqb (lower x) 47)
+    ap (λ (n : Name). turned (byName long n end (drop (nameLen n) (x ∷ [])))) (name-alone (lower x))
+    ∙ no-turn long end x (eqb (lower x) 102) (eqb (lower x) 103) (eqb (lower x) 47)
 short-tag long end (x ∷ y ∷ l) h = absurd (omega arith)
 
 module _ (long : Bool) (at : ℕ) (s : List ℕ) where
@@ -178,9 +179,11 @@ module _ (long : Bool) (at : ℕ) (s : List ℕ) where
   unfolding tagItem
   tag-four = look (leb 2 (length s)) (leb 4 (length s)) refl
     where
-      look : (t u : Bool) → leb 4 (length s) ≡ u → 4 * breaks (roleIn (pick t (parsedItem (tagValue long (at + (length s - 1)) (take (length s - 1 - 1) (drop 1 s)))) (Fails 5))) ≤ length s
+      look : (t u : Bool) → leb 4 (length s) ≡ u
+          → 4 * breaks (roleIn (pick t (parsedItem (tagValue long (at + (length s - 1)) (take (length s - 1 - 1) (drop 1 s)))) (Fails 5))) ≤ length s
       look false u q = omega arith
-      look true true q = omega (arith, leb-true 4 (length s) q, breaks-le (roleIn (parsedItem (tagValue long (at + (length s - 1)) (take (length s - 1 - 1) (drop 1 s))))))
+      look true true q =
+          omega (arith, leb-true 4 (length s) q, breaks-le (roleIn (parsedItem (tagValue long (at + (length s - 1)) (take (length s - 1 - 1) (drop 1 s))))))
       look true false q =
           omega (
             arith,

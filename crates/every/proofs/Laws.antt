@@ -332,7 +332,11 @@ module _ {file : List ℕ} {table : SignFile} {msg rows₀ all₀ rows all : Lis
   walk-asks =
       let w : Walkable file table msg all₀ = z .asked .walkable in
       record {
-        asked = record { walkable = record { opened = w .opened; small = w .small; room = omega (arith, z .long, w .room) }; rowed = omega (arith, z .rowed, z .asked .rowed) };
+        asked =
+            record {
+              walkable = record { opened = w .opened; small = w .small; room = omega (arith, z .long, w .room) };
+              rowed = omega (arith, z .rowed, z .asked .rowed);
+            };
         stands = z .stands;
         few = omega (arith, counted-records);
       }
@@ -498,7 +502,8 @@ module _ (file msg : List ℕ) {x : Admitted} (e : x ≡ handed (admission file 
     call-gathered {a} {k} d =
         let o : Opens file msg (x .table) = opens file msg e h in
         let after : Board → Gathered =
-        λ y. pick (ltb a 1026) (none-but (refusal 4 0 0 0)) (pick (ltb k 2048) (none-but (refusal 4 0 0 0)) (gather (pages y (items (x .table .config) msg)))) in
+        λ y. pick (ltb a 1026) (none-but (refusal 4 0 0 0))
+        (pick (ltb k 2048) (none-but (refusal 4 0 0 0)) (gather (pages y (items (x .table .config) msg)))) in
         record {
           ends =
               d .ends ∙ ap after (board-is file msg (x .table .config) (o .fs) (o .admits-it .sign))
@@ -525,7 +530,15 @@ pub record Fits (a k : ℕ) (msg : List ℕ) (g : Gathered) : Type 0 where
   pub lent-records : length (unlessRefused (g .refusal) (g .records)) ≤ k
 
 none-fits : (a k : ℕ) (msg : List ℕ) (r : Refusal) → Fits a k msg (none-but r)
-none-fits a k msg r = record { answers = omega arith; records = omega arith; within = omega arith; small = λ p. absurd (omega arith); lent-answers = omega arith; lent-records = omega arith }
+none-fits a k msg r =
+    record {
+      answers = omega arith;
+      records = omega arith;
+      within = omega arith;
+      small = λ p. absurd (omega arith);
+      lent-answers = omega arith;
+      lent-records = omega arith;
+    }
 
 unless-le : {A : Type 0} (o : Option Refusal) (l : List A) → length (unlessRefused o l) ≤ length l
 unless-le none l = omega arith

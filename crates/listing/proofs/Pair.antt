@@ -116,7 +116,8 @@ module _ {M : Type 1} (𝓤 : URA M) (H : Heap 𝓤) (A : Atoms 𝓤) (W : Given
       third : (β : ℕ) (r : B .Denot) (u : Val) (zs : List ℕ) → Known r zs → Is B r (u ∷ [])
           → ⟦ tok β ⟧ ∗ Written r zs ∗ Written′ r zs ∗ ⟦ Lender β zs ⟧ ∗ Back r zs ⊢ Endsᵤ u
       third β r u zs known is = if-true (hasTy τR (getV (fieldsOf u) 0)) _ _ (fitsR (has .answer r) _ (has .answer-is r u is) .0)
-          (qed W (‵ (tok β) ∷ raw (Written r zs) ∷ raw (Written′ r zs) ∷ ‵ (Lender β zs) ∷ raw (Back r zs) ∷ []) ∵ updating ! $ lft-end ! tt $ move ! (0 ∷ 3 ∷ []) $
+          (qed W (‵ (tok β) ∷ raw (Written r zs) ∷ raw (Written′ r zs) ∷ ‵ (Lender β zs) ∷ raw (Back r zs) ∷ []) ∵ updating ! $
+          lft-end ! tt $ move ! (0 ∷ 3 ∷ []) $
           use2 W (soon (‵ (froom (array N) l 0))) (room-again 𝓤 H A W N N-room l (β ∷ []) zs) $ await ! tt $ at-once ! $ frame ! $ move ! (2 ∷ 0 ∷ 1 ∷ []) $
           by ! (says r zs (getV (fieldsOf u) 0) known (has .answer-is r u is)))
 
@@ -131,7 +132,8 @@ module _ {M : Type 1} (𝓤 : URA M) (H : Heap 𝓤) (A : Atoms 𝓤) (W : Given
           -- [what was written, the lender's part, what came back; then what the writer is given]
           move ! (1 ∷ 4 ∷ 5 ∷ []) $ group ! 3 $ move ! (2 ∷ 1 ∷ 3 ∷ []) $ group ! 3 $
           by ! (called-by 𝓤 H A W C fm writer′ (slice′ ∷ sliceVal (l, 0) N ∷ vint w64 (has .second r) ∷ []) tyUnit (Own′ ∗ ⟦ tok β ⟧ ∗ ⟦ In N ℓ′ l β δ zs ⟧)
-          (Written r zs ∗ ⟦ Lender β zs ⟧ ∗ Back r zs) (λ v. guard 𝓤 (Fits-in tyUnit v) (⟦ tok β ⟧ ∗ Written′ r zs)) (λ _. Endsᵤ u) (writes′ l β δ r zs known) (λ v.
+          (Written r zs ∗ ⟦ Lender β zs ⟧ ∗ Back r zs) (λ v. guard 𝓤 (Fits-in tyUnit v) (⟦ tok β ⟧ ∗ Written′ r zs))
+          (λ _. Endsᵤ u) (writes′ l β δ r zs known) (λ v.
           qed W (given (Fits-in tyUnit v) (‵ (tok β) ⊛ raw (Written′ r zs)) ∷ raw (Written r zs) ∷ ‵ (Lender β zs) ∷ raw (Back r zs) ∷ []) ∵
           learn ! (λ t. check ! t $ split ! $ move ! (0 ∷ 2 ∷ []) $ by ! (third β r u zs known is))))
 
@@ -143,7 +145,8 @@ module _ {M : Type 1} (𝓤 : URA M) (H : Heap 𝓤) (A : Atoms 𝓤) (W : Given
           → ⋆ 𝓤 H A (After-computing α γ r zs) ⊢ Writesᵤ u (vint w64 (has .first r)) (vint w64 (has .second r))
       second α γ r u zs known full is =
           qed W (After-computing α γ r zs) ∵ updating ! $ lft-end ! tt $ lft-new ! tt (λ β. move ! (1 ∷ 2 ∷ 3 ∷ []) $
-          use3 W (soon (some (λ (δ : GName). ‵ (In N ℓ′ l β δ zs) ⊛ ‵ (Lender β zs)))) (lends-on 𝓤 H A W N N-room l ℓ′ (α ∷ []) (β ∷ []) γ zs full) $ await ! tt $
+          use3 W (soon (some (λ (δ : GName). ‵ (In N ℓ′ l β δ zs) ⊛ ‵ (Lender β zs)))) (lends-on 𝓤 H A W N N-room l ℓ′ (α ∷ []) (β ∷ []) γ zs full) $
+          await ! tt $
           pick ! (λ δ. split ! $
           use1 W (‵ (In N ℓ′ l β δ zs) ⊛ ‵ (In N ℓ′ l β δ zs)) (shr-slice-copy 𝓤 H A W ℓ′ (β ∷ []) u16 .twice (on l zs δ) (sliceVal (l, 0) N ∷ [])) $ split ! $
           -- [the shared slice, twice; the lender's part; β's token; what came back; what the writers are given]

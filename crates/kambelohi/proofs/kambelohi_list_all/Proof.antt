@@ -55,7 +55,8 @@ module _ {M : Type 1} (𝓤 : URA M) (H : Heap 𝓤) (A : Atoms 𝓤) (W : Given
       (Listed (now (a .0)) (now (a .1 .0)) (now (a .1 .1 .0)) (now (a .1 .1 .1 .0)) r (now (e .1 .1 .0)) (now (e .1 .1 .1 .0))) _
       (λ told. (ap listAllAnswer (told .0), told .1, told .2)))
       list-def.name numbers-def.name known-list
-      (makes-of 𝓤 H A W (𝓣 .C) (fmOf 𝓤 H (W .laws) 𝓣) An.the-row B.the-row listAllAnswer (numbers.ended .kept .0) numbers-def.name known-numbers) (λ κs a bs. refl)
+      (makes-of 𝓤 H A W (𝓣 .C) (fmOf 𝓤 H (W .laws) 𝓣) An.the-row B.the-row listAllAnswer (numbers.ended .kept .0) numbers-def.name known-numbers)
+      (λ κs a bs. refl)
 
 pub kambelohi-list-all-spec : {M : Type 1} → stated.statement M
 unfolding code.routine tablesOf
