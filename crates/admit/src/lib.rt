@@ -1,4 +1,6 @@
 // The checks that every call begins with: refusals 1 to 3. A call's own numbers come behind them.
+#![tactic(auto)]
+
 ghost use Rattle.std.specs.Prelude.{◌≡◌};
 ghost use Rattle.refusal.specs.Refusals.{refusal as refusal_of};
 ghost use Rattle.sign.specs.Sign.{sign_file};

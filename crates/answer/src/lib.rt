@@ -1,4 +1,6 @@
 // The computation of an answer: sign file, message, answer number and room give the answer with its counts, and its records as rows of numbers.
+#![tactic(auto)]
+
 ghost use Rattle.std.specs.Prelude.{◌≡◌};
 ghost use Rattle.pages.specs.Pages.{Ready};
 ghost use Rattle.answer.specs.Answer.{bare, placed_by, Answerable, count_of, RecordRoom, Numbered, Listable, Answered, Computed, Counted, PlacedAs};

@@ -1,4 +1,6 @@
 // Every answer of a message, from one walk over its pages: the answers and their records as rows of numbers in one lent slice.
+#![tactic(auto)]
+
 ghost use Rattle.std.specs.Prelude.{◌≡◌, ◌+◌, ◌*◌, ◌≤◌, ◌<◌, length, drop};
 ghost use Rattle.std.proofs.Math.Option.{none, some};
 ghost use Rattle.refusal.specs.Refusals.{refusal as refusal_of};

@@ -1,4 +1,6 @@
 // The fonts of a sign file, their characters, and the width of a text.
+#![tactic(auto)]
+
 ghost use Rattle.std.specs.Prelude.{◌≡◌, ◌*◌, ◌≤◌, length, take};
 ghost use Rattle.utf8.specs.Utf8.{codes};
 ghost use Rattle.records.specs.Record.{pieces_at};

@@ -1,4 +1,6 @@
 // What C and Rust link: the calls, with structs of numbers for answers. include/kambelohi.h says the same in C.
+#![tactic(auto)]
+
 ghost use Rattle.std.specs.Prelude.{◌≡◌};
 ghost use Rattle.every.specs.All.{listing_all as all_of, answers_after as answers_of, records_after as records_of};
 ghost use Rattle.layout.specs.Listing.{listing as listing_of, after as after_of};

@@ -1,4 +1,6 @@
 // What the code of a listing and its definitions share.
+#![tactic(auto)]
+
 ghost use Rattle.std.specs.Prelude.{◌≡◌, ◌<◌};
 ghost use Rattle.layout.specs.Types.{unwrap_or};
 ghost use Rattle.layout.specs.Read.{with_span, with_just_line, with_just_page, with_line, with_char_spacing, with_font, with_rect, unit as unit_of, whole as whole_of, new_page, start as start_of};

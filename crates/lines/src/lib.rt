@@ -1,4 +1,6 @@
 // The lines of a page justification, and what stands above and below a line's foot.
+#![tactic(auto)]
+
 ghost use Rattle.std.specs.Prelude.{◌≡◌, ◌+◌, ◌≤◌, ◌<◌, max, length};
 ghost use Rattle.base.specs.Pick.{pick};
 ghost use Rattle.layout.specs.Placing.{combine as combine_of};

@@ -1,4 +1,6 @@
 // The listing call, and the placing call, which also gives the counts of a page: they write the records of an answer to the lent slice.
+#![tactic(auto)]
+
 ghost use Rattle.std.specs.Prelude.{◌≡◌, length};
 ghost use Rattle.layout.specs.Listing.{listing, after};
 ghost use Rattle.counts.specs.Placing.{placing};

@@ -1,4 +1,6 @@
 // What the fonts of a sign file say of a span: taken once for each, and kept with it in its row.
+#![tactic(auto)]
+
 ghost use Rattle.std.specs.Prelude.{◌≡◌, ◌∷◌, [], false};
 ghost use Rattle.std.proofs.Math.Option.{none, some};
 ghost use Rattle.font.specs.Character.{letters_at};

@@ -1,6 +1,8 @@
 // Prints what a message on standard input says, slice by slice: start, length, the value's code and its eight numbers (tests/FORMAT.md).
 // A slice that is refused prints "refused", number, start, length and detail. The last line is "end" with the message's length.
 // Long times hold if sign.bin in the current folder is a sign file that has them.
+#![tactic(auto)]
+
 use libc::{STDIN_FILENO, STDOUT_FILENO};
 use reading::Reading;
 use refusal::Refusal;

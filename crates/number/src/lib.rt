@@ -1,4 +1,6 @@
 // Number readers: Rust's unsigned `parse` and `from_str_radix`, on any part of a slice.
+#![tactic(auto)]
+
 ghost use Rattle.std.specs.Prelude.{◌≡◌, ◌≤◌, ◌<◌};
 ghost use Rattle.number.specs.Number.{digit_of, read_digits, read_number, version_id};
 

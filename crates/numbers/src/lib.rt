@@ -1,4 +1,6 @@
 // A value as numbers: the place of its case in `enum Value`, from 1, and eight numbers. Vectors and C have values so.
+#![tactic(auto)]
+
 ghost use Rattle.std.specs.Prelude.{◌≡◌};
 ghost use Rattle.numbers.specs.Numbers.{make as make_of, numbers_of, flag_of, or_zero, order_of, mode_of, delay_of, direction_of, kind_of, first_of, green_of, blue_of, color_of, font_of, graphic_of, specific_of};
 

@@ -1,4 +1,6 @@
 // Page states, and the scan of a page: its times and its first failing slice, before any placing.
+#![tactic(auto)]
+
 ghost use Rattle.std.specs.Prelude.{◌≡◌, ◌-◌, ◌≤◌, length, take, drop};
 ghost use Rattle.layout.specs.Read.{tagged as tagged_of, mark_of, mark_item, scan as scan_of};
 ghost use Rattle.page.specs.State.{new_page, done_after, next_state};

@@ -1,4 +1,6 @@
 // The pages of a message, one answer after the other, as the Rust's iterator `Pages` gives them.
+#![tactic(auto)]
+
 ghost use Rattle.std.specs.Prelude.{◌≡◌, true};
 ghost use Rattle.pages.specs.Pages.{RenderAsked, PassRendered, too_many, last_of, page_done, PageRendered, state_after, shown_by, off_by, first_of, NextAsked, NextRead};
 

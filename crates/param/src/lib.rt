@@ -1,4 +1,6 @@
 // Parameters of tags that are more than one number. Each takes parts of the tag; none is copied.
+#![tactic(auto)]
+
 ghost use Rattle.std.specs.Prelude.{◌≡◌, ◌≤◌};
 ghost use Rattle.param.specs.Param.{read_optional, optional_version, justification, read_xy, rectangle_of, read_rgb, rgb_of, color_of};
 ghost use Rattle.number.specs.Number.{version_id};

@@ -1,4 +1,6 @@
 // The tag parser: `parse_tag` of multi.rs, and the tags that hold a text.
+#![tactic(auto)]
+
 ghost use Rattle.std.specs.Prelude.{◌≡◌, ◌≤◌, length, drop};
 ghost use Rattle.parse.specs.Parse.{text_of, manufacturer_specific, manufacturer_specific_end, movement as movement_by, movement_parts, movement_of, moving_text_mode, moving_text_linear, moving_text, end_name, first_name, name_by, name_of, name_len, by_name, tag_value};
 ghost use Rattle.part.specs.Part.{past, holds};

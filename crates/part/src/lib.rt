@@ -1,4 +1,6 @@
 // Parts of a tag.
+#![tactic(auto)]
+
 ghost use Rattle.std.specs.Prelude.{◌≡◌, get_or, drop};
 ghost use Rattle.part.specs.Part.{lower as lower_of, up_to, past, holds, index_of};
 ghost use Rattle.number.specs.Number.{read_number};

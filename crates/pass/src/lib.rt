@@ -1,4 +1,6 @@
 // Reading a pass: the values of a message up to [tr], [np] or the end, into rows of measured spans.
+#![tactic(auto)]
+
 ghost use Rattle.std.specs.Prelude.{◌≡◌, ◌≤◌, ◌<◌};
 ghost use Rattle.layout.specs.Read.{item_step};
 ghost use Rattle.meter.specs.Gauges.{WidthsOf};

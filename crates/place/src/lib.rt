@@ -1,4 +1,6 @@
 // Placing the spans of one pass: each measured row becomes a record, or the first refusal is answered.
+#![tactic(auto)]
+
 ghost use Rattle.std.specs.Prelude.{◌≡◌, ◌+◌, ◌≤◌, ◌<◌, length};
 ghost use Rattle.layout.specs.Placing.{trunc as trunc_of};
 ghost use Rattle.page.specs.Scan.{fault_is};

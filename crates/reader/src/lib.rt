@@ -1,4 +1,6 @@
 // A reader of the sign file: the lent bytes and a position. The work is done by `records::record_at`, on a slice and a number.
+#![tactic(auto)]
+
 ghost use Rattle.std.specs.Prelude.{◌≡◌};
 ghost use Rattle.records.specs.Record.{head_at};
 

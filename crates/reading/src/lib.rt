@@ -1,4 +1,6 @@
 // The reading call: the slice at an offset of a message, with its value.
+#![tactic(auto)]
+
 ghost use Rattle.std.specs.Prelude.{◌≡◌, ◌+◌, ◌≤◌, ◌<◌, length};
 ghost use Rattle.reading.specs.Reading.{parsed_item, tag_item, text_item, item_of, refused, slice_reading, reading_at, reading};
 

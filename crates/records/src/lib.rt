@@ -1,4 +1,6 @@
 // A sign file's records, and the first of them: the configuration.
+#![tactic(auto)]
+
 ghost use Rattle.std.specs.Prelude.{◌≡◌, ◌<◌, length};
 ghost use Rattle.records.specs.Record.{little_at, head_at};
 ghost use Rattle.records.specs.Config.{config_of, size_ok, just_ok, tags_ok, config_ok, first_of};

@@ -1,4 +1,5 @@
 // A refusal, as every call answers it: document 01, "The calls".
+#![tactic(auto)]
 
 // "A refusal holds number, start, length and detail (zeros unless said)".
 #[derive(Drop)]

@@ -1,4 +1,6 @@
 // Reading a pass: what each value of a message does to the render state, as `render_text_rectangle` has it.
+#![tactic(auto)]
+
 ghost use Rattle.std.specs.Prelude.{◌≡◌, ◌-◌, ◌≤◌, ◌<◌};
 ghost use Rattle.refusal.specs.Refusals.{refusal as refusal_of};
 ghost use Rattle.layout.specs.Read.{entry_of, with_char_spacing, extent as extent_of, fits as fits_of, rect_of, rect_fits, justified as justified_of, go_if, with_just_line, with_just_page, font_step, span_step, line_step, surrogate as surrogate_of, above0, hex_step, new_line_step, spacing_step, rect_step, value_step};

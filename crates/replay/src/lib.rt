@@ -1,5 +1,7 @@
 // What the replaying programs share: case and answer streams as text (lines, words, numbers and bytes on any part of a slice),
 // reading one on standard input, and what is printed.
+#![tactic(auto)]
+
 mod input;
 mod stream;
 

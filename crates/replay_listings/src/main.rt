@@ -1,4 +1,6 @@
 // Replays the L cases of an answer stream on standard input, and prints how many agree and how these end.
+#![tactic(auto)]
+
 mod compare;
 
 ghost use Rattle.std.specs.Prelude.{length, ◌≡◌, ◌*◌};

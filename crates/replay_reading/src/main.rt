@@ -1,4 +1,6 @@
 // Replays the D, X, Q and V cases of an answer stream on standard input, and prints how many agree.
+#![tactic(auto)]
+
 mod compare;
 
 ghost use Rattle.std.specs.Prelude.{◌≤◌, ◌<◌, length};

@@ -1,4 +1,6 @@
 // Replays the I cases of an answer stream on standard input, and prints how many agree.
+#![tactic(auto)]
+
 mod compare;
 
 use compare::Check;

@@ -1,4 +1,6 @@
 // The refusal as an English sentence: document 02, A1.
+#![tactic(auto)]
+
 ghost use Rattle.std.specs.Prelude.{◌≡◌, ◌++◌, ◌+◌, ◌≤◌, ◌<◌, length, drop};
 ghost use Rattle.part.specs.Part.{past};
 ghost use Rattle.base.specs.Text.{ascii};

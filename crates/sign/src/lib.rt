@@ -1,4 +1,6 @@
 // A sign file: its configuration and its table of fonts, read once.
+#![tactic(auto)]
+
 ghost use Rattle.std.specs.Prelude.{◌≡◌, ℕ, ◌≤◌, ◌<◌, length, get_or};
 ghost use Rattle.sign.specs.Sign.{bitmap_len, sign_file};
 ghost use Rattle.sign.specs.Given.{no_fonts, refusal_at, given};

@@ -1,4 +1,6 @@
 // The sign file of a program: sign.bin in the current folder.
+#![tactic(auto)]
+
 ghost use Rattle.std.specs.Prelude.{◌≡◌, ◌≤◌, length};
 
 // Its bytes go to the buffer, as many as there is room for; the answer is how many. One that can't be opened counts as empty.

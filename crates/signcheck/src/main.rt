@@ -1,5 +1,7 @@
 // Tells whether a message is accepted on a sign: sign.bin in the current folder is the sign file, standard input the message. Prints how many
 // answers its listing has, or the sentence of its first refusal; below it the message around the refusal's place, with the place marked.
+#![tactic(auto)]
+
 ghost use Rattle.std.specs.Prelude.{◌+◌, ◌≤◌, length};
 
 use layout::Answer;

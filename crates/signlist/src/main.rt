@@ -1,6 +1,8 @@
 // Lists a message: sign.bin in the current folder is the sign file, standard input the message. Prints how many bytes of the message were
 // read, then each answer: on and its duration, with a line for each span (start, length, x, y, width, height, font); off and its duration;
 // the end with the count of answers; or a refusal with number, start, length and detail, which ends the listing.
+#![tactic(auto)]
+
 ghost use Rattle.std.specs.Prelude.{◌≡◌, length};
 
 use every::Shown;

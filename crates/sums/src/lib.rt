@@ -1,5 +1,7 @@
 // Offsets across of the spans of a group. The rows of each line are chained, so that a group is walked without those of other lines; one walk
 // makes a table by span number, which tells what stands before each span of the group.
+#![tactic(auto)]
+
 ghost use Rattle.std.specs.Prelude.{◌≡◌, ◌+◌, ◌/◌, ◌≤◌, ◌<◌, length, get_or, replicate};
 ghost use Rattle.base.specs.Pick.{pick};
 ghost use Rattle.rows.specs.Rows.{rows_of, SpanRoom, cell_at};

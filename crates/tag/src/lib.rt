@@ -1,4 +1,6 @@
 // The tag parsers: the parse_ functions of multi.rs. Each takes the tag's bytes after its name.
+#![tactic(auto)]
+
 ghost use Rattle.std.specs.Prelude.{◌≡◌, ◌≤◌};
 ghost use Rattle.tag.specs.Tag.{new_line, new_page, font, justification_line, justification_page, most_time, page_time, page_background, color_foreground, color_background, four_of, fifth as fifth_of, color_rectangle, last_four, text_rectangle, spacing_character, hexadecimal_character, flash_on, flash_off, flash_time, field, point_of, graphic_at, graphic, spacing_character_end, flash_end};
 ghost use Rattle.param.specs.Param.{color_of, optional_version};

@@ -1,4 +1,6 @@
 // The tokenizer: where the slice at a place of a message ends, and of what shape a slice is.
+#![tactic(auto)]
+
 ghost use Rattle.std.specs.Prelude.{◌≡◌, ◌+◌, drop};
 ghost use Rattle.token.specs.Token.{plain_len, slice_len, is_pair, last_byte, shape_of};
 

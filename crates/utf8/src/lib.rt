@@ -1,4 +1,6 @@
 // UTF-8: whether bytes are well formed, their code points, and the places between characters.
+#![tactic(auto)]
+
 ghost use Rattle.std.specs.Prelude.{◌≡◌, ltb};
 ghost use Rattle.base.specs.Pick.{pick};
 ghost use Rattle.utf8.specs.Utf8.{first as first_of, extra as extra_of, low as low_of, high as high_of, fits as fits_of, after_byte as after_of, well_formed, all_ascii, bits as bits_of, codes, code_at, all_latin1, continues as continues_of, inside_character};

@@ -1,4 +1,6 @@
 // The values of MULTI, tags and text, as `enum Value` of the Rust has them.
+#![tactic(auto)]
+
 ghost use Rattle.std.specs.Prelude.{◌≡◌};
 ghost use Rattle.value.specs.Tag.{field_tag, tag_of, has_tag};
 

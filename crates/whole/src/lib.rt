@@ -1,4 +1,6 @@
 // The whole listing in one call: it writes all answers of a message and their records to two lent slices.
+#![tactic(auto)]
+
 ghost use Rattle.std.specs.Prelude.{◌≡◌, ◌++◌, ◌+◌, ◌*◌, ◌≤◌, length, drop};
 ghost use Rattle.rows.specs.Rows.{spans_of};
 ghost use Rattle.every.specs.All.{listing_all, answers_after, records_after};
