@@ -11,7 +11,7 @@ use refusal::{OptRefusal, Refusal};
 use sign::{Outcome, SignFile};
 
 // The refusal that denies a call, if any, and its sign: the answer of `read_sign`, which is accepted where nothing denies.
-#[derive(Drop)]
+#[derive(Clone, Copy)]
 pub struct Admitted {
     pub denied: OptRefusal,
     pub table: SignFile,

@@ -135,7 +135,7 @@ fn count_of(a: Answer) -> usize
 }
 
 // An answer, and how many records it has.
-#[derive(Drop)]
+#[derive(Clone, Copy)]
 pub struct AnswerCount {
     pub answer: Answer,
     pub count: usize,
@@ -152,7 +152,7 @@ pub fn counted(file: &[u8], msg: &[u8], number: usize, room: usize, out: &mut [u
 }
 
 // An answer with its counts, and how many records it has.
-#[derive(Drop)]
+#[derive(Clone, Copy)]
 pub struct PlacedCount {
     pub placed: Placed,
     pub count: usize,

@@ -4,7 +4,7 @@
 use layout::Answer;
 
 // looked: the characters that the page's measures looked up. spans: the spans placed. Both are 0 for an off answer, the end and a refusal.
-#[derive(Drop)]
+#[derive(Clone, Copy)]
 pub struct Placed {
     pub answer: Answer,
     pub looked: u16,

@@ -14,7 +14,7 @@ use sign::SignFile;
 
 // An answer of a listing. kind: 1 on, 2 off; its duration in tenths of a second; the number of its first record, and how many it has.
 #[repr(C)]
-#[derive(Drop)]
+#[derive(Clone, Copy)]
 pub struct Shown {
     pub kind: u16,
     pub duration: u16,
@@ -23,14 +23,14 @@ pub struct Shown {
 }
 
 // The counts of answers and of records, or the first refusal.
-#[derive(Drop)]
+#[derive(Clone, Copy)]
 pub enum Counts {
     Listed(u16, u16),
     Refused(Refusal),
 }
 
 // What a walk has shown: how many answers and records, and the refusal that ended it, if any.
-#[derive(Drop)]
+#[derive(Clone, Copy)]
 pub struct Walked {
     pub answers: usize,
     pub records: usize,
@@ -216,7 +216,7 @@ pub fn gather(file: &[u8], msg: &[u8], answers: usize, records: usize, all: &mut
 }
 
 // The answer of the call, and how many answers and records it writes: none where it is a refusal.
-#[derive(Drop)]
+#[derive(Clone, Copy)]
 pub struct AllCount {
     pub counts: Counts,
     pub answers: usize,

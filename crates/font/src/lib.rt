@@ -16,14 +16,14 @@ use records::Head;
 use sign::{FontEntry, SignFile};
 
 // A character's width, and where its bitmap starts in the file.
-#[derive(Drop)]
+#[derive(Clone, Copy)]
 pub enum Found {
     Is(u8, usize),
     Missing,
 }
 
 // What a character's record says, where its bitmap starts, and where the record ends.
-#[derive(Drop)]
+#[derive(Clone, Copy)]
 struct Letter {
     number: u16,
     width: u8,
@@ -32,28 +32,28 @@ struct Letter {
 }
 
 // What is at an offset: a character's record, or no such record.
-#[derive(Drop)]
+#[derive(Clone, Copy)]
 enum Next {
     Is(Letter),
     End,
 }
 
 // A font's entry in the table.
-#[derive(Drop)]
+#[derive(Clone, Copy)]
 pub enum FontFound {
     Entry(FontEntry),
     Absent,
 }
 
 // A text's width, or the code of its first character that the font does not define.
-#[derive(Drop)]
+#[derive(Clone, Copy)]
 pub enum Measure {
     Width(u32),
     Missing(u32),
 }
 
 // A measure, and how many characters it looked up.
-#[derive(Drop)]
+#[derive(Clone, Copy)]
 pub struct Looked {
     pub measure: Measure,
     pub count: usize,

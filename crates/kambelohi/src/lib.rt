@@ -21,7 +21,7 @@ use sentence::Told;
 // kind: 0 a slice with its value, 1 the end of the message, 2 a refusal. Of a slice: start, length, and the value's code and eight numbers.
 // Of a refusal: number, start, length and detail. What a kind does not use is 0.
 #[repr(C)]
-#[derive(Drop)]
+#[derive(Clone, Copy)]
 pub struct ReadAnswer {
     pub kind: u32,
     pub number: u32,
@@ -81,7 +81,7 @@ pub extern "C" fn kambelohi_read(msg: &[u8], offset: usize, long_times: bool) ->
 // An answer of a listing. kind: 1 on, 2 off, 3 the end, 4 a refusal. Of on: duration and count of records; of off: duration; of the end:
 // count of answers; of a refusal: number, start, length and detail. What a kind does not use is 0.
 #[repr(C)]
-#[derive(Drop)]
+#[derive(Clone, Copy)]
 pub struct ListAnswer {
     pub kind: u16,
     pub duration: u16,
@@ -144,7 +144,7 @@ pub extern "C" fn kambelohi_list(
 // An answer of a placing: that of the listing, with its kinds, and two counts of the page: the characters that its measures looked up, and the
 // spans placed. Both are 0 but for on. What a kind does not use is 0.
 #[repr(C)]
-#[derive(Drop)]
+#[derive(Clone, Copy)]
 pub struct PlaceAnswer {
     pub kind: u8,
     pub number: u8,
@@ -221,7 +221,7 @@ pub extern "C" fn kambelohi_place(
 // An answer of kambelohi_list_all. kind: 1 the whole listing is written, 2 a refusal. Of a listing: how many answers and how many records; of a
 // refusal: number, start, length and detail. What a kind does not use is 0.
 #[repr(C)]
-#[derive(Drop)]
+#[derive(Clone, Copy)]
 pub struct ListAllAnswer {
     pub kind: u16,
     pub answers: u16,
@@ -275,7 +275,7 @@ pub extern "C" fn kambelohi_list_all(
 // An answer of kambelohi_sentence. kind: 1 the sentence is written, 2 a refusal. Of a sentence: how many bytes; of a refusal: number, start,
 // length and detail. What a kind does not use is 0.
 #[repr(C)]
-#[derive(Drop)]
+#[derive(Clone, Copy)]
 pub struct SentenceAnswer {
     pub kind: u16,
     pub count: u16,

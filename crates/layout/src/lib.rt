@@ -10,7 +10,7 @@ use refusal::Refusal;
 use value::OptNum;
 
 // A text rectangle; left and top from 0: [tr]'s x - 1 and y - 1.
-#[derive(Drop)]
+#[derive(Clone, Copy)]
 pub struct Rect {
     pub left: u16,
     pub top: u16,
@@ -19,7 +19,7 @@ pub struct Rect {
 }
 
 // What is in force where a span is read.
-#[derive(Drop)]
+#[derive(Clone, Copy)]
 pub struct RenderState {
     pub rect: Rect,
     pub just_page: u8,
@@ -33,7 +33,7 @@ pub struct RenderState {
 }
 
 // A span before it is placed: its record's kind, start, length and code, and the state it was read in.
-#[derive(Drop)]
+#[derive(Clone, Copy)]
 pub struct Entry {
     pub kind: u16,
     pub start: u16,
@@ -43,7 +43,7 @@ pub struct Entry {
 }
 
 // What the scan of a page makes of an item: it goes by, ends the page, sets its times, or fails with a number.
-#[derive(Drop)]
+#[derive(Clone, Copy)]
 pub enum Mark {
     Plain,
     Ends,
@@ -53,7 +53,7 @@ pub enum Mark {
 
 // What an item of a pass does: a refusal; the next state and whether the line is still blank; a span with them;
 // [tr], which ends the pass; [np].
-#[derive(Drop)]
+#[derive(Clone, Copy)]
 pub enum Step {
     Refuse(Refusal),
     Go(RenderState, bool),
@@ -65,7 +65,7 @@ pub enum Step {
 // A placed span. kind: 0 text, 1 hexadecimal character, 2 empty line. start and length in message bytes; code of kind 1, else 0; x and y
 // from 0; the rectangle's x and y from 1 as in [tr], its zero sizes extended.
 #[repr(C)]
-#[derive(Drop)]
+#[derive(Clone, Copy)]
 pub struct Span {
     pub kind: u16,
     pub start: u16,
@@ -85,7 +85,7 @@ pub struct Span {
 }
 
 // On or off with its duration in tenths of a second, on also with its count of records; the end with the count of answers; or a refusal.
-#[derive(Drop)]
+#[derive(Clone, Copy)]
 pub enum Answer {
     On(u16, u16),
     Off(u16),

@@ -12,7 +12,7 @@ use rows::Fault;
 
 // The lines: heights, font spacings, and in leads their own spacings, where led is 1. fault, detail: the first font fault
 // (10, 11) met while they were collected, or 0.
-#[derive(Drop)]
+#[derive(Clone, Copy)]
 pub struct LineList {
     pub heights: [u16; 256],
     pub font_spacings: [u16; 256],
@@ -24,7 +24,7 @@ pub struct LineList {
 }
 
 // One of them.
-#[derive(Drop)]
+#[derive(Clone, Copy)]
 struct TextLine {
     height: u16,
     font_spacing: u16,
@@ -34,7 +34,7 @@ struct TextLine {
 
 // The lines of page justification just, once they are summed up: their count, what they take in all, and their first font fault.
 // What stands above the foot of each is in a table by line number.
-#[derive(Drop)]
+#[derive(Clone, Copy)]
 pub struct PageLines {
     pub just: u16,
     pub count: usize,
@@ -44,7 +44,7 @@ pub struct PageLines {
 }
 
 // What stands above the foot of a line, and below it, and the first font fault of its page justification.
-#[derive(Drop)]
+#[derive(Clone, Copy)]
 pub struct Heights {
     pub above: u64,
     pub below: u64,
@@ -53,7 +53,7 @@ pub struct Heights {
 }
 
 // Where a row goes, whether that line is there already, and how many lines there are then.
-#[derive(Drop)]
+#[derive(Clone, Copy)]
 struct Slot {
     at: usize,
     old: bool,

@@ -132,7 +132,7 @@ fn fault_by(version: u8, m: Measure) -> Fault
 }
 
 // What the fonts say of a span, and how many characters its measure looked up.
-#[derive(Drop)]
+#[derive(Clone, Copy)]
 pub struct Gauged {
     pub gauge: Gauge,
     pub looked: usize,
@@ -246,7 +246,7 @@ fn row_by(e: Entry, g: Gauge) -> Row
 }
 
 // A span's row, and how many characters its measure looked up.
-#[derive(Drop)]
+#[derive(Clone, Copy)]
 pub struct RowLooked {
     pub row: Row,
     pub looked: usize,

@@ -5,7 +5,7 @@ ghost use Rattle.std.specs.Prelude.{◌≡◌, ◌≤◌, ◌<◌};
 ghost use Rattle.number.specs.Number.{digit_of, read_digits, read_number, version_id};
 
 // What a reader answers: the number, or that the bytes are none.
-#[derive(Drop)]
+#[derive(Clone, Copy)]
 pub enum Number {
     Is(u32),
     Refused,

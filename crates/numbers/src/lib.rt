@@ -9,7 +9,7 @@ use value::{
     OptPlace, OptPoint, Place, Rectangle, Value,
 };
 
-#[derive(Drop)]
+#[derive(Clone, Copy)]
 pub struct Numbers {
     pub code: u32,
     pub n: [u32; 8],

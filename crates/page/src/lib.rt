@@ -13,7 +13,7 @@ use refusal::{OptRefusal, Refusal};
 use value::{Place, Value};
 
 // A page's times, and its first failing slice.
-#[derive(Drop)]
+#[derive(Clone, Copy)]
 pub struct PageScan {
     pub on: u16,
     pub off: u16,
@@ -21,7 +21,7 @@ pub struct PageScan {
 }
 
 // The times after an item, or the scan's end.
-#[derive(Drop)]
+#[derive(Clone, Copy)]
 pub enum Look {
     On(u16, u16),
     Stop(PageScan),
@@ -146,7 +146,7 @@ pub fn scan(msg: &[u8], from: usize, c: Config, on: u16, off: u16) -> PageScan
 }
 
 // A page that is on or off, with whether more pages follow, or all pages done.
-#[derive(Drop)]
+#[derive(Clone, Copy)]
 pub enum PageState {
     On(bool),
     Off(bool),

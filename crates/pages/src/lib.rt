@@ -13,7 +13,7 @@ use sign::SignFile;
 
 // A page that is done: whether [np] ended it, the place past that, the count of its records, how many characters its measures looked up, and
 // the state of a page after it.
-#[derive(Drop)]
+#[derive(Clone, Copy)]
 pub struct PageDone {
     pub more: bool,
     pub at: usize,
@@ -22,14 +22,14 @@ pub struct PageDone {
     pub state: RenderState,
 }
 
-#[derive(Drop)]
+#[derive(Clone, Copy)]
 pub enum PageEnd {
     Refused(Refusal),
     Ended(PageDone),
 }
 
 // Where the next answer comes from: the place in the message, the state and the times there, and whether a page is on or off.
-#[derive(Drop)]
+#[derive(Clone, Copy)]
 pub struct Pages {
     pub at: usize,
     pub render_state: RenderState,
@@ -39,7 +39,7 @@ pub struct Pages {
 }
 
 // An answer: on or off, its duration, the count of its records and that of the characters looked up, which are 0 if it is off.
-#[derive(Drop)]
+#[derive(Clone, Copy)]
 pub struct PageShown {
     pub on: bool,
     pub duration: u16,
@@ -48,7 +48,7 @@ pub struct PageShown {
 }
 
 // The next answer and where the one after it comes from; the end; or a refusal.
-#[derive(Drop)]
+#[derive(Clone, Copy)]
 pub enum NextPage {
     Page(Pages, PageShown),
     End,

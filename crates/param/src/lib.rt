@@ -10,25 +10,25 @@ use number::Number;
 use value::{Color, OptNum, Rectangle};
 
 // An optional number that was read, or a wrong one.
-#[derive(Drop)]
+#[derive(Clone, Copy)]
 pub enum Optional {
     Read(OptNum),
     Wrong,
 }
 
-#[derive(Drop)]
+#[derive(Clone, Copy)]
 pub enum Xy {
     Read(u16, u16),
     Wrong,
 }
 
-#[derive(Drop)]
+#[derive(Clone, Copy)]
 pub enum ReadRectangle {
     Read(Rectangle),
     Wrong,
 }
 
-#[derive(Drop)]
+#[derive(Clone, Copy)]
 pub enum ReadColor {
     Read(Color),
     Wrong,

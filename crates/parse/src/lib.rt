@@ -9,14 +9,14 @@ use number::Number;
 use tag::Parsed;
 use value::{Movement, MovingTextDirection, MovingTextMode, OptPlace, Place, Value};
 
-#[derive(Drop)]
+#[derive(Clone, Copy)]
 enum ReadMovement {
     Read(Movement),
     Wrong,
 }
 
 // The names of tags; F and G are followed by a number. Laws on tags name it.
-#[derive(Drop)]
+#[derive(Clone, Copy)]
 pub enum Name {
     Cb,
     Cf,

@@ -14,7 +14,7 @@ use sign::SignFile;
 use value::Place;
 
 // What ends a pass: [tr], [np] or the message's end.
-#[derive(Drop)]
+#[derive(Clone, Copy)]
 pub enum How {
     Cut,
     Turn,
@@ -23,7 +23,7 @@ pub enum How {
 
 // A pass that is done: what ended it, the place past that, the count of its spans, how many characters their measures looked up, its
 // rectangle, and the state after [tr], before [np] or at the message's end.
-#[derive(Drop)]
+#[derive(Clone, Copy)]
 pub struct PassDone {
     pub how: How,
     pub at: usize,
@@ -33,7 +33,7 @@ pub struct PassDone {
     pub state: RenderState,
 }
 
-#[derive(Drop)]
+#[derive(Clone, Copy)]
 pub enum PassEnd {
     Refused(Refusal),
     Ended(PassDone),
@@ -83,7 +83,7 @@ fn keep(file: &[u8], table: SignFile, font: u8, held: u16, widths: &mut [u16; 25
 }
 
 // The font whose widths are kept, and how many characters a span's measure looked up.
-#[derive(Drop)]
+#[derive(Clone, Copy)]
 pub struct Kept {
     pub font: u16,
     pub looked: usize,

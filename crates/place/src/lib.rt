@@ -19,7 +19,7 @@ use rows::{Fault, Row};
 use sums::Sums;
 
 // A placed span, or its refusal.
-#[derive(Drop)]
+#[derive(Clone, Copy)]
 pub enum Placed {
     At(Span),
     Refused(Refusal),
@@ -259,7 +259,7 @@ fn place_group(
 }
 
 // How many rows of a pass, from the first on, are placed across; number and detail of the refusal of the next.
-#[derive(Drop)]
+#[derive(Clone, Copy)]
 struct Across {
     count: usize,
     number: u8,

@@ -6,7 +6,7 @@ ghost use Rattle.records.specs.Record.{head_at};
 
 use records::Head;
 
-#[derive(Drop)]
+#[derive(Clone, Copy)]
 pub struct SignReader<'a> {
     pub file: &'a [u8],
     pub at: usize,

@@ -10,14 +10,14 @@ use token::Shape;
 use value::{Place, Value};
 
 // What a slice says: its value, or the number of its refusal.
-#[derive(Drop)]
+#[derive(Clone, Copy)]
 pub enum Said {
     Is(Value),
     Fails(u8),
 }
 
 // The slice at the offset and its value, the end of the message, or a refusal.
-#[derive(Drop)]
+#[derive(Clone, Copy)]
 pub enum Reading {
     Slice(Place, Value),
     End,

@@ -9,7 +9,7 @@ ghost use Rattle.records.specs.Config.{config_of, size_ok, just_ok, tags_ok, con
 const MASK: u32 = 134233320;
 
 // A record's kind, where its body starts, and where it ends; or a record that is cut short.
-#[derive(Drop)]
+#[derive(Clone, Copy)]
 pub enum Head {
     Whole { kind: u16, start: usize, end: usize },
     Short,
@@ -17,7 +17,7 @@ pub enum Head {
 
 // The values of kind 1, and the options, which are records of their own: capitals may stand in for small letters
 // (kind 4), page times may be long (kind 5).
-#[derive(Drop)]
+#[derive(Clone, Copy)]
 pub struct Config {
     pub width: u16,
     pub height: u16,
@@ -33,7 +33,7 @@ pub struct Config {
     pub long_times: bool,
 }
 
-#[derive(Drop)]
+#[derive(Clone, Copy)]
 pub enum First {
     Is(Config),
     Refused,

@@ -2,7 +2,7 @@
 #![tactic(auto)]
 
 // "A refusal holds number, start, length and detail (zeros unless said)".
-#[derive(Drop)]
+#[derive(Clone, Copy)]
 pub struct Refusal {
     pub number: u8,
     pub start: u16,
@@ -10,7 +10,7 @@ pub struct Refusal {
     pub detail: u16,
 }
 
-#[derive(Drop)]
+#[derive(Clone, Copy)]
 pub enum OptRefusal {
     Some(Refusal),
     None,

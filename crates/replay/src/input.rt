@@ -8,7 +8,7 @@ use libc::{STDIN_FILENO, STDOUT_FILENO};
 // A place in the input, of which a buffer holds a window.
 // came: the last line that came, and where its case starts. was, stream: the places of the stream before and after it.
 // line: its number; that of the line that was to come where the input ended. read: the last turn read it, and it is of the format.
-#[derive(Drop)]
+#[derive(Clone, Copy)]
 pub struct Input {
     pub window: Window,
     pub came: Window,

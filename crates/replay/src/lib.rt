@@ -13,14 +13,14 @@ use number::Number;
 pub use stream::{Phase, Stream, start};
 
 // How many bytes a word of hexadecimal pairs has; good: it is such a word.
-#[derive(Drop)]
+#[derive(Clone, Copy)]
 pub struct Bytes {
     pub len: usize,
     pub good: bool,
 }
 
 // What a buffer holds: a case from start on, whose lines are read up to at, and bytes up to end.
-#[derive(Drop)]
+#[derive(Clone, Copy)]
 pub struct Window {
     pub start: usize,
     pub at: usize,

@@ -3,7 +3,7 @@ use crate::{down, is_number, is_numbers, letter, number_at, same, up, word_is, w
 use number::Number;
 
 // What the next line is.
-#[derive(Drop)]
+#[derive(Clone, Copy)]
 pub enum Phase {
     Head,
     Case,
@@ -24,7 +24,7 @@ pub enum Phase {
 }
 
 // A place in a stream: what comes, the letter of the case, and how many cases came.
-#[derive(Drop)]
+#[derive(Clone, Copy)]
 pub struct Stream {
     pub phase: Phase,
     pub kind: u8,

@@ -12,7 +12,7 @@ use replay::{Input, Phase, Stream};
 // len, text: the bytes of the file and of the message. seen: a file came. answer, row: the next answer, and its next record.
 // ending: the last answer's refusal number, or 0. other: the first line that does not agree, or 0. good: the words are of the format.
 // cases, agreed: how many came, and agreed. endings: how many of these ended so, by number.
-#[derive(Drop)]
+#[derive(Clone, Copy)]
 pub struct Check {
     pub len: usize,
     pub text: usize,

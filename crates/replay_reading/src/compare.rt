@@ -9,7 +9,7 @@ use replay::{Phase, Stream};
 // The case whose answer is read.
 // line: where it stands. max: the largest number of a D case. len: how many bytes it has.
 // at: where the next slice of a V case starts. agree: the answer agrees so far. good: its words are of the format.
-#[derive(Drop)]
+#[derive(Clone, Copy)]
 pub struct Check {
     pub line: u32,
     pub max: u32,

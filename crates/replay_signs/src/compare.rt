@@ -8,7 +8,7 @@ use sign::Outcome;
 // The sign file that came last, and the case whose answer is read.
 // len: how many bytes the file has. seen: one came. line: where the case stands. row: the next font of its answer.
 // agree: the answer agrees so far. good: the words are of the format. cases, agreed: how many came, and agreed.
-#[derive(Drop)]
+#[derive(Clone, Copy)]
 pub struct Check {
     pub len: usize,
     pub seen: bool,

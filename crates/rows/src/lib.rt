@@ -12,7 +12,7 @@ use layout::Span;
 // An entry of a pass with its measures. kind to code: as in its record. just_page to span: of the state it was read in.
 // spacing: its [sc] value where fixed is 1, else its font's. lead: the line spacing of the [nl] before it, where led is 1.
 // height, font_spacing: its font's height and line spacing. fault, detail: refusal 10, 11 or 12, or 0.
-#[derive(Drop)]
+#[derive(Clone, Copy)]
 pub struct Row {
     pub kind: u16,
     pub start: u16,
@@ -35,7 +35,7 @@ pub struct Row {
 }
 
 // A span's spacing, its font's height and line spacing, its width, and number and detail of refusal 10, 11 or 12, or 0.
-#[derive(Drop)]
+#[derive(Clone, Copy)]
 pub struct Gauge {
     pub spacing: u16,
     pub height: u16,
@@ -46,7 +46,7 @@ pub struct Gauge {
 }
 
 // Number and detail of refusal 10, 11 or 12, or zeros.
-#[derive(Drop)]
+#[derive(Clone, Copy)]
 pub struct Fault {
     pub number: u8,
     pub detail: u16,

@@ -12,7 +12,7 @@ ghost use Rattle.sentence.specs.Texts.{skip, entry_in, From, PutMost};
 use refusal::Refusal;
 
 // The sentence's length, or a refusal.
-#[derive(Drop)]
+#[derive(Clone, Copy)]
 pub enum Told {
     Length(u16),
     Refused(Refusal),

@@ -9,7 +9,7 @@ ghost use Rattle.sign.specs.Reading.{font_entry, font_in, font_at, char_in, char
 use records::{Config, First, Head};
 
 // A font of the file: its values, the offset of its first character's record, and how many it has.
-#[derive(Drop)]
+#[derive(Clone, Copy)]
 pub struct FontEntry {
     pub number: u8,
     pub height: u8,
@@ -20,14 +20,14 @@ pub struct FontEntry {
     pub characters: usize,
 }
 
-#[derive(Drop)]
+#[derive(Clone, Copy)]
 pub enum Outcome {
     Accepted,
     RefusedAt(usize),
 }
 
 // The first count fonts are the file's, if it is accepted.
-#[derive(Drop)]
+#[derive(Clone, Copy)]
 pub struct SignFile {
     pub outcome: Outcome,
     pub config: Config,
@@ -35,20 +35,20 @@ pub struct SignFile {
     pub count: usize,
 }
 
-#[derive(Drop)]
+#[derive(Clone, Copy)]
 pub enum FontAt {
     Is(FontEntry),
     Not,
 }
 
-#[derive(Drop)]
+#[derive(Clone, Copy)]
 pub enum CharAt {
     Code(u16, usize),
     Other,
 }
 
 // n characters in a row, and the offset past them. wide: the next one's number is past the table.
-#[derive(Drop)]
+#[derive(Clone, Copy)]
 pub struct CharRun {
     pub n: usize,
     pub at: usize,

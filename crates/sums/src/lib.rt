@@ -13,7 +13,7 @@ use rows::{Fault, Row};
 
 // Of the rows so far: what stands before the span and what from there on, how many of them are of the group, the spacing of its last row, and
 // number and detail of its first fault or else 0.
-#[derive(Drop)]
+#[derive(Clone, Copy)]
 pub struct Sums {
     pub before: u64,
     pub after: u64,

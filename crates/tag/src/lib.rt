@@ -11,7 +11,7 @@ use param::{Optional, ReadColor, ReadRectangle, Xy};
 use value::{Color, FlashOrder, OptColor, OptFont, OptNum, OptPoint, Value};
 
 // What a tag says, or how it fails: no known tag, or a bad parameter.
-#[derive(Drop)]
+#[derive(Clone, Copy)]
 pub enum Parsed {
     Good(Value),
     Unsupported,

@@ -6,7 +6,7 @@ ghost use Rattle.token.specs.Token.{plain_len, slice_len, is_pair, last_byte, sh
 
 // What a slice is, as `Value::try_from` tells it.
 // Bracket: [[ or ]]. Tag: from [ to ]. Stray: a [ without its ], or a lone ].
-#[derive(Drop)]
+#[derive(Clone, Copy)]
 pub enum Shape {
     Bracket,
     Tag,

@@ -6,7 +6,7 @@ ghost use Rattle.base.specs.Pick.{pick};
 ghost use Rattle.utf8.specs.Utf8.{first as first_of, extra as extra_of, low as low_of, high as high_of, fits as fits_of, after_byte as after_of, well_formed, all_ascii, bits as bits_of, codes, code_at, all_latin1, continues as continues_of, inside_character};
 
 // How many bytes of a character are due, and the range of the next one. Laws on texts name it.
-#[derive(Drop)]
+#[derive(Clone, Copy)]
 pub struct Due {
     pub left: u8,
     pub low: u8,
@@ -14,7 +14,7 @@ pub struct Due {
 }
 
 // A code point, and how many bytes it takes.
-#[derive(Drop)]
+#[derive(Clone, Copy)]
 pub struct Code {
     pub code: u32,
     pub len: usize,

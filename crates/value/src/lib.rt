@@ -5,26 +5,26 @@ ghost use Rattle.std.specs.Prelude.{◌≡◌};
 ghost use Rattle.value.specs.Tag.{field_tag, tag_of, has_tag};
 
 // What the Rust has as an Option of u8 or u16.
-#[derive(Drop)]
+#[derive(Clone, Copy)]
 pub enum OptNum {
     Some(u16),
     None,
 }
 
 // A text, as a part of the message.
-#[derive(Drop)]
+#[derive(Clone, Copy)]
 pub struct Place {
     pub start: u16,
     pub len: u16,
 }
 
-#[derive(Drop)]
+#[derive(Clone, Copy)]
 pub enum OptPlace {
     Some(Place),
     None,
 }
 
-#[derive(Drop)]
+#[derive(Clone, Copy)]
 pub struct Rectangle {
     pub x: u16,
     pub y: u16,
@@ -32,52 +32,52 @@ pub struct Rectangle {
     pub height: u16,
 }
 
-#[derive(Drop)]
+#[derive(Clone, Copy)]
 pub enum Color {
     Legacy(u8),
     Rgb(u8, u8, u8),
 }
 
-#[derive(Drop)]
+#[derive(Clone, Copy)]
 pub enum OptColor {
     Some(Color),
     None,
 }
 
-#[derive(Drop)]
+#[derive(Clone, Copy)]
 pub enum FlashOrder {
     OnOff,
     OffOn,
 }
 
-#[derive(Drop)]
+#[derive(Clone, Copy)]
 pub enum MovingTextMode {
     Circular,
     Linear(u8),
 }
 
-#[derive(Drop)]
+#[derive(Clone, Copy)]
 pub enum MovingTextDirection {
     Left,
     Right,
 }
 
 // A font's number and version id.
-#[derive(Drop)]
+#[derive(Clone, Copy)]
 pub enum OptFont {
     Some(u8, OptNum),
     None,
 }
 
 // A graphic's x, y and version id.
-#[derive(Drop)]
+#[derive(Clone, Copy)]
 pub enum OptPoint {
     Some(u16, u16, OptNum),
     None,
 }
 
 // Of a moving text: its width, the pixels of a step, the tenths of a second between steps, and the text.
-#[derive(Drop)]
+#[derive(Clone, Copy)]
 pub struct Movement {
     pub width: u16,
     pub pixels: u8,
@@ -86,7 +86,7 @@ pub struct Movement {
 }
 
 // Justifications are the numbers of NTCIP 1203: 1 other, 2 left, 3 centre, 4 right, 5 full; 2 top, 3 middle, 4 bottom.
-#[derive(Drop)]
+#[derive(Clone, Copy)]
 pub enum Value {
     ColorBackground(OptColor),
     ColorForeground(OptColor),
@@ -150,7 +150,7 @@ pub const CR: u32 = 28;
 pub const PB: u32 = 29;
 
 // A tag's bit, or none.
-#[derive(Drop)]
+#[derive(Clone, Copy)]
 pub enum OptTag {
     Some(u32),
     None,
