@@ -1,5 +1,5 @@
 -- Worked numbers, by computation.
-use Rattle.std.specs.Prelude.{◌≡◌, refl, ◌++◌}
+use Rattle.std.specs.Prelude.{◌≡◌}
 use Rattle.base.specs.Text.{ascii}
 use Rattle.number.specs.declared.Number.TheVariants.{Is, Refused}
 use Rattle.number.specs.Number.{digit_of, read_from, read_digits, read_number, version_id}

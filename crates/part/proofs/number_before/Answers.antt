@@ -1,0 +1,5 @@
+use borrow.Author.Rules.{rules}
+use Rattle.part.proofs.number_before.Goals as goal
+
+pub returns : goal.returns
+returns c = cc

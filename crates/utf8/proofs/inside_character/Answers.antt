@@ -1,0 +1,6 @@
+use borrow.Author.Rules.{rules}
+use Rattle.utf8.specs.Utf8.{inside_character}
+use Rattle.utf8.proofs.inside_character.Goals as goal
+
+pub returns : goal.returns
+returns c = unfold inside_character in cc
