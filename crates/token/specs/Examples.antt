@@ -1,5 +1,5 @@
 -- Worked slices, by computation.
-use Rattle.std.specs.Prelude.{ℕ, ◌≡◌, refl, [], ◌∷◌}
+use Rattle.std.specs.Prelude.{ℕ, ◌≡◌, [], ◌∷◌}
 use Prim.Native.String.{String}
 use Rattle.base.specs.Text.{ascii}
 use Rattle.token.specs.declared.Shape.TheVariants.{Bracket, Tag, Stray, Text}

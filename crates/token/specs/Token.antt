@@ -1,5 +1,5 @@
 -- Document 01, "Tokenizer": how a message is cut into slices, and of what shape a slice is.
-use Rattle.std.specs.Prelude.{ℕ, zero, suc, ◌+◌, ◌-◌, List, [], ◌∷◌, ◌++◌, Bool, false, eqb, length, get_or, take}
+use Rattle.std.specs.Prelude.{ℕ, zero, suc, ◌-◌, List, [], ◌∷◌, ◌++◌, Bool, false, eqb, length, get_or, take}
 use Rattle.base.specs.Pick.{pick}
 use Rattle.token.specs.declared.Shape.{Shape}
 use Rattle.token.specs.declared.Shape.TheVariants.{Bracket, Tag, Stray, Text}

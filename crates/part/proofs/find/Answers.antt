@@ -1,8 +1,4 @@
 use borrow.Author.Rules.{rules}
-use Prim.Native.Nat.{◌+◌, ◌-◌}
-use mathlib.Core.Path.{◌≡◌}
-use lib.ListN.{length, drop}
-use Rattle.part.specs.Part.{index_of}
 use Rattle.part.proofs.Laws.{find_ways}
 use Rattle.part.proofs.find.Goals as goal
 

@@ -1,9 +1,7 @@
-use borrow.Author.Rules.{rules}
 use Prim.Native.Nat.{◌+◌, ◌-◌}
 use mathlib.Core.Path.{◌≡◌}
 use lib.ListN.{length, drop}
 use Rattle.part.specs.Part.{index_of}
-use Rattle.part.proofs.Laws.{find_ways}
 use Rattle.part.proofs.find.Given as goal
 
 abbrev pub invariant-loop-i : goal.invariant-loop-i

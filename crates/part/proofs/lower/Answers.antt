@@ -1,4 +1,3 @@
-use borrow.Author.Rules.{rules}
 use Rattle.base.specs.Pick.{picks}
 use Rattle.part.specs.Part.{lower}
 use Rattle.part.proofs.lower.Goals as goal

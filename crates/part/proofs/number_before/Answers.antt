@@ -1,4 +1,3 @@
-use borrow.Author.Rules.{rules}
 use Rattle.part.proofs.number_before.Goals as goal
 
 pub returns : goal.returns

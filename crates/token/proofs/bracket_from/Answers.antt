@@ -1,8 +1,4 @@
 use borrow.Author.Rules.{rules}
-use Prim.Native.Nat.{◌+◌, ◌-◌}
-use mathlib.Core.Path.{◌≡◌}
-use lib.ListN.{length, drop}
-use Rattle.token.specs.Token.{plain_len}
 use Rattle.token.proofs.Laws.{plain_ways}
 use Rattle.token.proofs.bracket_from.Goals as goal
 

@@ -1,6 +1,5 @@
 use Rattle.base.specs.Pick.{picks}
 use Rattle.token.specs.Token.{is_pair}
-use borrow.Author.Rules.{rules}
 use Rattle.token.proofs.is_pair.Goals as goal
 
 pub returns-then-s-b : goal.returns-then-s-b

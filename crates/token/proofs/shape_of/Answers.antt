@@ -1,6 +1,5 @@
 use Rattle.base.specs.Pick.{picks, answers}
 use Rattle.token.specs.Token.{shape_of}
-use borrow.Author.Rules.{rules}
 use Rattle.token.proofs.shape_of.Goals as goal
 
 pub returns-then-is_pair : goal.returns-then-is_pair

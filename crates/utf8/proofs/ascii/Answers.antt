@@ -1,17 +1,10 @@
 use borrow.Author.Rules.{rules}
-use Prim.Native.Nat.{◌-◌}
 use native.Mathlib.Omega.{arith}
-use mathlib.Core.Path.{◌≡◌}
-use mathlib.Core.Bool.{false}
-use lib.Dec.{ltb}
-use lib.ListN.{length, drop}
-use Rattle.base.specs.Pick.{pick}
-use Rattle.utf8.specs.Utf8.{all_ascii}
 use Rattle.utf8.proofs.Laws.{ascii_start, ascii_ways}
 use Rattle.utf8.proofs.ascii.Goals as goal
 
 pub loop-i-init : goal.loop-i-init
-loop-i-init c = ascii_start c.args.s.now c.args.from (omega (arith, c.fits.from))
+loop-i-init c = ascii_start c.args.s.now c.args.from (omega (arith, c.ranges.from.fits))
 
 pub loop-i-preserved : goal.loop-i-preserved
 loop-i-preserved c = search (ascii_ways, rules) depth 6

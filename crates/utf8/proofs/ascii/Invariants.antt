@@ -1,13 +1,10 @@
-use borrow.Author.Rules.{rules}
 use Prim.Native.Nat.{◌-◌}
-use native.Mathlib.Omega.{arith}
 use mathlib.Core.Path.{◌≡◌}
 use mathlib.Core.Bool.{false}
 use lib.Dec.{ltb}
 use lib.ListN.{length, drop}
 use Rattle.base.specs.Pick.{pick}
 use Rattle.utf8.specs.Utf8.{all_ascii}
-use Rattle.utf8.proofs.Laws.{ascii_start, ascii_ways}
 use Rattle.utf8.proofs.ascii.Given as goal
 
 abbrev pub invariant-loop-i : goal.invariant-loop-i

@@ -1,4 +1,3 @@
-use borrow.Author.Rules.{rules}
 use Rattle.utf8.specs.Utf8.{inside_character}
 use Rattle.utf8.proofs.inside_character.Goals as goal
 

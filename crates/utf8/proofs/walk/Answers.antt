@@ -1,8 +1,5 @@
 use borrow.Author.Rules.{rules}
-use Prim.Native.Nat.{◌-◌}
-use mathlib.Core.Path.{◌≡◌}
-use lib.ListN.{length, drop}
-use Rattle.utf8.specs.Utf8.{well_formed, well_formed_from}
+use Rattle.utf8.specs.Utf8.{well_formed}
 use Rattle.utf8.proofs.Laws.{formed_ways}
 use Rattle.utf8.proofs.walk.Goals as goal
 

@@ -1,9 +1,5 @@
 use borrow.Author.Rules.{rules}
-use Prim.Native.Nat.{◌-◌}
 use native.Mathlib.Omega.{arith}
-use mathlib.Core.Path.{◌≡◌}
-use lib.ListN.{length, drop}
-use Rattle.utf8.specs.Utf8.{all_latin1, codes}
 use Rattle.utf8.proofs.Laws.{latin1_ways, code_len}
 use Rattle.utf8.proofs.walk_latin1.Goals as goal
 

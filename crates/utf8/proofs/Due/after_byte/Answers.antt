@@ -1,4 +1,3 @@
-use borrow.Author.Rules.{rules}
 use Rattle.base.specs.Pick.{picks}
 use Rattle.utf8.specs.Utf8.{after_byte}
 use Rattle.utf8.proofs.Laws.{due_same}
