@@ -1,0 +1,6 @@
+use Rattle.parse.specs.Parse.{name_of}
+use borrow.Author.Rules.{rules}
+use Rattle.parse.proofs.name_of.Goals as goal
+
+pub returns : goal.returns
+returns c = unfold name_of in cc

@@ -1,0 +1,17 @@
+use Rattle.base.specs.Pick.{picks, answers}
+use Rattle.param.proofs.Laws.{apart, fits}
+use Rattle.tag.specs.Tag.{field}
+use borrow.Author.Rules.{rules}
+use Rattle.tag.proofs.parse_field.Goals as goal
+
+pub returns-in_default : goal.returns-in_default
+returns-in_default c = unfold field in search (apart, picks, answers) depth 14
+
+pub returns-in_default-optional_after : goal.returns-in_default-optional_after
+returns-in_default-optional_after c = unfold field in search (apart, picks, answers) depth 14
+
+pub overflow_cast-result : goal.overflow_cast-result
+overflow_cast-result c = search (fits, rules)
+
+pub returns : goal.returns
+returns c = unfold field in search (apart, picks, answers) depth 14

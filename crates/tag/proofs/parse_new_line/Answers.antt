@@ -1,0 +1,20 @@
+use Rattle.base.specs.Pick.{picks, answers}
+use Rattle.param.proofs.Laws.{apart, fits}
+use Rattle.tag.specs.Tag.{new_line}
+use borrow.Author.Rules.{rules}
+use Rattle.tag.proofs.parse_new_line.Goals as goal
+
+pub returns-then-p-eq0 : goal.returns-then-p-eq0
+returns-then-p-eq0 c = unfold new_line in search (apart, picks, answers) depth 14
+
+pub returns-in_default : goal.returns-in_default
+returns-in_default c = unfold new_line in search (apart, picks, answers) depth 14
+
+pub overflow_cast-result : goal.overflow_cast-result
+overflow_cast-result c = search (fits, rules)
+
+pub returns-then-p-eq1 : goal.returns-then-p-eq1
+returns-then-p-eq1 c = unfold new_line in search (apart, picks, answers) depth 14
+
+pub returns : goal.returns
+returns c = unfold new_line in search (apart, picks, answers) depth 14
