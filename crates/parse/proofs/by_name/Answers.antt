@@ -2,7 +2,6 @@ use Prim.Native.Nat.{ℕ}
 use mathlib.Core.Path.{◌≡◌}
 use mathlib.Core.List.{List}
 use mathlib.Core.Bool.{Bool}
-use borrow.Author.Rules.{rules}
 use Rattle.tag.specs.declared.Parsed.{Parsed}
 use Rattle.parse.specs.declared.Name.{Name}
 use Rattle.parse.specs.Parse.{by_name}

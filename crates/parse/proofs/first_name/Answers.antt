@@ -1,6 +1,5 @@
 use Rattle.base.specs.Pick.{picks}
 use Rattle.parse.specs.Parse.{first_name}
-use borrow.Author.Rules.{rules}
 use Rattle.parse.proofs.first_name.Goals as goal
 
 pub returns-then-b-eq101 : goal.returns-then-b-eq101

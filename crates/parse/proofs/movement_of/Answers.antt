@@ -1,6 +1,5 @@
 use Rattle.base.specs.Pick.{picks, answers}
 use Rattle.parse.specs.Parse.{movement_of}
-use borrow.Author.Rules.{rules}
 use Rattle.parse.proofs.movement_of.Goals as goal
 
 pub returns-then-has_text : goal.returns-then-has_text

@@ -1,5 +1,4 @@
 use Rattle.parse.specs.Parse.{name_of}
-use borrow.Author.Rules.{rules}
 use Rattle.parse.proofs.name_of.Goals as goal
 
 pub returns : goal.returns

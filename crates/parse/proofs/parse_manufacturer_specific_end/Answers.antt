@@ -1,7 +1,6 @@
 use Rattle.base.specs.Pick.{picks, answers}
 use Rattle.param.proofs.Laws.{apart}
 use Rattle.parse.specs.Parse.{manufacturer_specific_end}
-use borrow.Author.Rules.{rules}
 use Rattle.parse.proofs.parse_manufacturer_specific_end.Goals as goal
 
 pub returns-in_default : goal.returns-in_default

@@ -1,7 +1,6 @@
 use Rattle.base.specs.Pick.{picks, answers}
 use Rattle.parse.proofs.Laws.{moved_ways}
 use Rattle.parse.specs.Parse.{moving_text_mode}
-use borrow.Author.Rules.{rules}
 use Rattle.parse.proofs.parse_moving_text_mode.Goals as goal
 
 pub returns-in_default : goal.returns-in_default
