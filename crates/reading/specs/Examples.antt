@@ -1,5 +1,5 @@
 -- Worked readings, by computation.
-use Rattle.std.specs.Prelude.{ℕ, ◌≡◌, refl, [], ◌∷◌, true, false}
+use Rattle.std.specs.Prelude.{ℕ, ◌≡◌, [], ◌∷◌, true, false}
 use Prim.Native.String.{String}
 use Rattle.base.specs.Text.{ascii}
 use Rattle.number.specs.Number.{digit_of, read_from, read_digits, read_number, version_id}
