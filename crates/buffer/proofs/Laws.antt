@@ -1,11 +1,11 @@
 -- Texts written one after the other.
-use Prim.Native.Nat.{ℕ, zero, suc, ◌+◌, ◌≤◌, ◌<◌}
+use Prim.Native.Nat.{ℕ, suc, ◌+◌, ◌≤◌, ◌<◌}
 use native.Mathlib.Numerals.{add-one}
 use native.Mathlib.Omega.{arith}
 use mathlib.Core.Path.{◌≡◌, refl, sym, ◌∙◌, ap}
 use mathlib.Core.List.{List, [], ◌∷◌, ◌++◌}
 use lib.ListN.{length, get_or, set, drop, length-set, length-append}
-use lib.Seq.{sets, sets-eq, length-sets, drop-cons, drop-length}
+use lib.Seq.{sets, sets-eq, drop-cons, drop-length}
 use Rattle.buffer.specs.Put.{Put}
 
 -- ---- the loop: what is written from here on is the whole

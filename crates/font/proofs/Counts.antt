@@ -1,13 +1,13 @@
 -- What the count of characters looked up says of a text.
 use Prim.Native.Nat.{ℕ, suc}
-use mathlib.Core.Path.{◌≡◌, refl, sym, ◌∙◌, ap}
+use mathlib.Core.Path.{◌≡◌, refl, ap}
 use mathlib.Core.List.{List, [], ◌∷◌, ◌++◌}
 use lib.ListN.{length}
 use Rattle.records.proofs.Laws.{never}
 use Rattle.sign.specs.Sign.{Character}
 use Rattle.font.specs.Character.{character_in}
 use Rattle.font.specs.Measure.{widened, with_width, width_after, text_width, looked_on, looked_up}
-use Rattle.font.specs.Counts.{UpTo, Counts}
+use Rattle.font.specs.Counts.{Counts}
 use Rattle.font.specs.declared.Found.{Found}
 use Rattle.font.specs.declared.Found.TheVariants.{Is, Missing as Absent}
 use Rattle.font.specs.declared.Measure.TheVariants.{Width, Missing}

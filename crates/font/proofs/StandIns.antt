@@ -9,7 +9,6 @@ use lib.ListN.{length, get_or, set, length-set}
 use lib.Seq.{get_or-set_same, get_or-set_other}
 use borrow.Author.Tests.{le-leb, lt-leb, leb-true, leb-false, eq-eqb, ne_eqb, eqb-true, eqb-false, not-true, not-false}
 use Rattle.base.specs.Pick.{pick}
-use Rattle.records.specs.Record.{all}
 use Rattle.records.proofs.Laws.{Tests, tests}
 use Rattle.sign.specs.Sign.{Character}
 use Rattle.sign.specs.declared.FontEntry.{FontEntry}

@@ -19,7 +19,6 @@ use Rattle.sign.specs.declared.FontEntry.{FontEntry}
 use Rattle.sign.specs.declared.SignFile.{SignFile}
 use Rattle.sign.proofs.Answer.{Accepts}
 use Rattle.font.specs.Table.{font_numbered, entry_numbered, entry_found}
-use Rattle.font.specs.declared.FontFound.{FontFound}
 use Rattle.font.specs.declared.FontFound.TheVariants.{Entry, Absent}
 
 -- `font_numbered`: none of the table's first i fonts has the number

@@ -1,14 +1,13 @@
 -- Decimals: their digits, and what the number reader makes of them.
-use Prim.Native.Nat.{ℕ, zero, suc, ◌+◌, ◌-◌, ◌*◌, ◌/◌, ◌%◌, ◌^◌, ◌≤◌, ◌<◌}
-use native.Mathlib.Numerals.{add-one}
+use Prim.Native.Nat.{ℕ, zero, suc, ◌+◌, ◌-◌, ◌/◌, ◌%◌, ◌≤◌, ◌<◌}
 use native.Mathlib.Omega.{arith}
 use mathlib.Core.Path.{◌≡◌, refl, sym, ◌∙◌, ap, subst}
 use mathlib.Core.Bool.{Bool, true, false}
 use mathlib.Core.List.{List, [], ◌∷◌, ◌++◌, append_assoc}
 use lib.Dec.{ltb}
 use borrow.Author.Tests.{lt-ltb, le-ltb}
-use lib.ListN.{length, set, drop, length-set, length-append}
-use lib.Seq.{sets, set_comm, length-sets}
+use lib.ListN.{length, set, length-set, length-append}
+use lib.Seq.{sets, set_comm}
 use Rattle.base.specs.Pick.{pick}
 use Rattle.base.specs.Text.{ascii}
 use Rattle.buffer.specs.Put.{Put}
@@ -18,7 +17,6 @@ use Rattle.refusal.specs.Refusals.{refusal}
 use Rattle.sentence.specs.Words.{words}
 use Rattle.sentence.specs.Sentence.{digits, digit_count, decimal, sentence, telling, buffer_after}
 use Rattle.sentence.specs.Texts.{PutMost}
-use Rattle.sentence.specs.declared.Told.{Told}
 use Rattle.sentence.specs.declared.Told.TheVariants.{Length, Refused}
 
 pub digits_length : (w n : ℕ) → length (digits w n) ≡ w

@@ -1,15 +1,14 @@
 -- From the sentence alone all four numbers are recovered; the sentence is ASCII, with one full stop at its end, and has room in 96 bytes.
-use Prim.Native.Nat.{ℕ, zero, suc, ◌+◌, ◌*◌, ◌/◌, ◌%◌, ◌^◌, ◌≤◌, ◌<◌}
+use Prim.Native.Nat.{ℕ, zero, suc, ◌+◌, ◌*◌, ◌/◌, ◌%◌, ◌≤◌, ◌<◌}
 use native.Mathlib.Omega.{arith}
-use native.Mathlib.Nat.{div-add-mod', div-lt_iff_lt-mul}
-use mathlib.Core.Path.{◌≡◌, refl, sym, ◌∙◌, ap, subst}
-use mathlib.Core.Bool.{Bool, true, false, not, ◌&&◌}
+use mathlib.Core.Path.{◌≡◌, refl, ◌∙◌, ap}
+use mathlib.Core.Bool.{Bool, true, false, ◌&&◌}
 use mathlib.Core.Option.{Option, some}
 use mathlib.Core.List.{List, [], ◌∷◌, ◌++◌, append_assoc}
 use lib.Dec.{leb, ltb, eqb}
 use lib.ListN.{length, drop, get_or, length-append}
 use lib.Seq.{drop-append-add}
-use borrow.Author.Tests.{leb-true, le-leb, lt-leb, lt-ltb, ne_eqb, ltb-true, eqb-true}
+use borrow.Author.Tests.{leb-true, le-leb, lt-ltb, ne_eqb, ltb-true, eqb-true}
 use Rattle.base.specs.Pick.{pick}
 use Rattle.base.specs.Text.{ascii}
 use Rattle.number.specs.declared.Number.{Number}

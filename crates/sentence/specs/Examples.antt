@@ -1,5 +1,5 @@
 -- Worked sentences.
-use Rattle.std.specs.Prelude.{◌≡◌, refl, List, [], ◌∷◌, ◌++◌, ℕ}
+use Rattle.std.specs.Prelude.{◌≡◌, refl}
 use Rattle.base.specs.Text.{ascii}
 use Rattle.refusal.specs.Refusals.{refusal}
 use Rattle.sentence.specs.Words.{words, table, unknown}

@@ -1,22 +1,21 @@
 -- The options that the records after the first may start with.
 use Prim.Native.Nat.{ℕ, ◌+◌, ◌≤◌, ◌<◌}
-use mathlib.Core.Path.{◌≡◌, refl, sym, ◌∙◌, ap}
+use mathlib.Core.Path.{◌≡◌, refl, sym, ◌∙◌}
 use mathlib.Core.List.{List, [], ◌∷◌}
 use mathlib.Core.Bool.{Bool, true, false}
 use native.Mathlib.Omega.{arith}
 use native.Mathlib.Nat.{le_refl}
 use lib.Dec.{leb, ltb, eqb}
-use lib.ListN.{length, take, drop, length-take, length-drop}
+use lib.ListN.{length, length-take, length-drop}
 use borrow.Author.Tests.{lt-ltb, le-ltb, eq-eqb, ne_eqb, eqb-true, leb-true, leb-false}
 use Rattle.base.specs.Pick.{pick}
 use Rattle.records.specs.Record.{Piece, Record, CutShort, pieces_at, head_at}
 use Rattle.records.specs.Config.{with_options}
-use Rattle.records.proofs.Laws.{tests, head_start, head_from, head_to, pieces_next, pieces_short, pieces_end}
+use Rattle.records.proofs.Laws.{head_start, head_from, head_to, pieces_next, pieces_short, pieces_end}
 use Rattle.records.specs.declared.Config.{Config}
 use Rattle.records.specs.declared.Head.{Head}
 use Rattle.records.specs.declared.Head.TheVariants.{Whole, Short}
-use Rattle.sign.specs.Sign.{fonts_of, has_option, past_option, past_options, NoFont, fault_from, answer}
-use Rattle.sign.specs.Given.{given}
+use Rattle.sign.specs.Sign.{fonts_of, has_option, past_option, past_options}
 use Rattle.sign.specs.Reading.{part, given_from, given_after, PastOption}
 use Rattle.sign.specs.declared.SignFile.{SignFile}
 use Rattle.sign.proofs.Laws.{fonts_other}

@@ -1,0 +1,18 @@
+use borrow.Author.Rules.{rules}
+use Rattle.sign.proofs.Laws.{at_ways}
+use Rattle.sign.proofs.char_at.Goals as goal
+
+pub slice_bounds-char_in-count : goal.slice_bounds-char_in-count
+slice_bounds-char_in-count c = search (at_ways, rules) depth 6
+
+pub slice_bounds-char_in-start : goal.slice_bounds-char_in-start
+slice_bounds-char_in-start c = search (at_ways, rules) depth 6
+
+pub slice_bounds-char_in-end : goal.slice_bounds-char_in-end
+slice_bounds-char_in-end c = search (at_ways, rules) depth 6
+
+pub returns-in-Whole : goal.returns-in-Whole
+returns-in-Whole c = search (at_ways, rules) depth 6
+
+pub returns-in-Short : goal.returns-in-Short
+returns-in-Short c = search (at_ways, rules) depth 6
