@@ -21,7 +21,7 @@ use Rattle.records.specs.declared.Config.{Config}
 use Rattle.layout.specs.Types.{Item, item_at, items, Board}
 use Rattle.layout.specs.Fonts.{board_of}
 use Rattle.layout.specs.Placing.{pass_records}
-use Rattle.layout.specs.Read.{Scan, Event, pass, close, stop, start, opening, events}
+use Rattle.layout.specs.Read.{Scan, Event, pass, close, stop, opening, events}
 use Rattle.layout.specs.Listing.{Page, on, off, refused, stop_at, offs, pass_stop, walk, pages, numbered, listing, Result, result_on}
 use Rattle.layout.specs.Demand.{Shows, role_in}
 use Rattle.layout.specs.Bounds.{breaks, page_breaks, Stops, StopsBy}

@@ -1,5 +1,5 @@
 -- The pages of a message: if none is a refusal, their records are those of its spans, and every span is placed as demand 3 says.
-use Prim.Native.Nat.{ℕ, zero, suc, ◌+◌, ◌%◌, ◌≤◌}
+use Prim.Native.Nat.{ℕ, zero, suc, ◌%◌, ◌≤◌}
 use native.Mathlib.Nat.{zero-mod}
 use native.Mathlib.Omega.{arith}
 use mathlib.Core.Path.{◌≡◌, refl, sym, ap, ◌∙◌}
@@ -22,7 +22,7 @@ use Rattle.font.specs.declared.Measure.{Measure}
 use Rattle.font.specs.declared.Measure.TheVariants.{Width, Missing}
 use Rattle.layout.specs.Fonts.{version_fault, missing, width_of, measure_in, char_fault_after, fault_in, width_in, height_in, meter_of, board_of}
 use Rattle.layout.specs.Placing.{keep, select, same, first_fault, fault_at, span_fault, pass_fault, pass_records, record_of}
-use Rattle.layout.specs.Read.{Scan, Event, pass, close, stop, whole, start, opening, events}
+use Rattle.layout.specs.Read.{Scan, Event, pass, close, stop, whole, opening, events}
 use Rattle.layout.specs.Listing.{Page, on, off, refused, stop_at, offs, pass_stop, walk, pages}
 use Rattle.layout.specs.Demand.{Reads, rect_after, just_after, at_place, rect_at_place, just_at_place, Across, Down, In, here, there, From, Rises, printed_records, printed, placed, Tells, Measured, Divides, Stands}
 use Rattle.layout.proofs.Geometry.{next_left, from_rises}
@@ -152,6 +152,7 @@ in_map f (x ∷ l) here = record { of = x; in_list = here; is = refl }
 in_map f (x ∷ l) (there i) =
     let m : Mapped f l _ = in_map f l i in
     record { of = m.of; in_list = there m.in_list; is = m.is }
+in_map {A = A} {B = B} f [] {y = y} x' = elim x' [ ]
 
 put_off : {A : Type 0} (y : A) {x : A} {a b : List A} → In x a ⊎ In x b → In x (y ∷ a) ⊎ In x b
 put_off y (inl j) = inl (there j)
@@ -179,6 +180,7 @@ module _ (s : Board) where
   placed_in (pass r es ∷ evs) i = either r es (λ j. placed_in evs j) (in_append (map (record_of s r es) es) (placed s evs) i)
   placed_in (close a b ∷ evs) i = further (close a b) (placed_in evs i)
   placed_in (stop x ∷ evs) i = further (stop x) (placed_in evs i)
+  placed_in [] {q = q} i = elim i [ ]
 
 -- ---- a pass without a fault
 
@@ -193,6 +195,7 @@ in_kept false c k i = there (k i)
 
 of_select : {A : Type 0} (f : A → Bool) {e : A} (l : List A) → In e (select f l) → In e l
 of_select f (c ∷ l) i = in_kept (f c) c (λ j. of_select f l j) i
+of_select {A = A} f {e = e} [] i = elim i [ ]
 
 -- a span's font is there, and measures its text
 measure_none : (m : Measure) → missing m ≡ none → m ≡ Width (width_of m)
@@ -286,6 +289,7 @@ module _ (c : Config) (fs : List Font) (msg : List ℕ) where
   each_fine (pass r es ∷ evs) g k p (there i) = each_fine evs g.1 k.1 p.1 i
   each_fine (close a b ∷ evs) g k p (there i) = each_fine evs g k p i
   each_fine (stop x ∷ evs) g k p (there i) = each_fine evs g k p i
+  each_fine [] g k p {r = r} {es = es} x4 = elim x4 [ ]
 
   -- a record lies inside the rectangle at its place
   module _ (evs : List Event) (h : (r : Rect) (es : List Entry) → In (pass r es) evs → Stands c fs msg r es) where

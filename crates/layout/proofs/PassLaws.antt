@@ -51,6 +51,7 @@ keep_in f false q k i = k i
 
 pub select_true {ℓ} : {A : Type ℓ} (f : A → Bool) {e : A} (l : List A) → In e (select f l) → f e ≡ true
 select_true f (c ∷ l) i = keep_in f (f c) refl (λ j. select_true f l j) i
+select_true {A = A} f {e = e} [] i = elim i [ ]
 
 pub same_refl : (e : Entry) → same e e ≡ true
 same_refl e =

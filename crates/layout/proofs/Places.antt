@@ -37,7 +37,7 @@ use Rattle.font.specs.declared.Measure.{Measure}
 use Rattle.font.specs.declared.Measure.TheVariants.{Width, Missing}
 use Rattle.layout.specs.Fonts.{version_fault, missing, measure_in, font_fault_in, char_fault_after, fault_in, meter_of, board_of}
 use Rattle.layout.specs.Placing.{or_else, unless, first_fault, group, page, fault_at, span_fault, goes_back, back_fault, pass_fault, pass_records}
-use Rattle.layout.specs.Read.{tagged, mark_item, scan_by, Scan, scan, Event, pass, close, stop, start, opening, events}
+use Rattle.layout.specs.Read.{tagged, mark_item, scan_by, Scan, scan, Event, pass, close, stop, opening, events}
 use Rattle.layout.specs.Listing.{Page, on, off, refused, stop_at, offs, pass_stop, walk, pages, numbered, result_on, listing}
 use Rattle.layout.proofs.Cover.{Within, ReadAs, ends, refuses, goes, emits, cuts, turns, fails, EventsAs, refused_at_once, begun, events_as, Honest}
 use Rattle.layout.proofs.Checks.{admitted_result, answer_on}

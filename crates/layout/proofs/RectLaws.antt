@@ -1,5 +1,5 @@
 -- The text rectangle and the page justification at a place of the message are those that reading its spans has.
-use Prim.Native.Nat.{ℕ, suc, ◌+◌, ◌≤◌}
+use Prim.Native.Nat.{ℕ, suc, ◌≤◌}
 use native.Mathlib.Nat.{le_refl}
 use native.Mathlib.Omega.{arith}
 use mathlib.Core.Path.{◌≡◌, sym, ap, ◌∙◌}
@@ -31,6 +31,7 @@ in_snoc : {e : Entry} (l : List Entry) (a : Entry) (P : Entry → Type 0) → ((
 in_snoc [] a P f p here = p
 in_snoc (c ∷ l) a P f p here = f c here
 in_snoc (c ∷ l) a P f p (there i) = in_snoc l a P (λ d j. f d (there j)) p i
+in_snoc {e = e} [] a P f p (there i) = elim i [ ]
 
 -- ---- what holds at a place
 
@@ -81,7 +82,7 @@ module _ (s : Config) (R : ℕ → Rect) (J : ℕ → ℕ) where
   more_known : {r : Rect} (es : List Entry) {e : Entry} → Known r es → Seen r e → Known r (es ++ (e ∷ []))
   more_known {r = r} es {e = e} u z c i = in_snoc es e (Seen r) u z i
 
-  pub read_known : {lo : ℕ} {its : List Item} {st : RenderState} {acc : List Entry} {l : List Event} → ReadAs s its st acc l → Low lo its → Rest lo st its
+  pub read_known : {its : List Item} {st : RenderState} {acc : List Entry} {l : List Event} → ReadAs s its st acc l → {lo : ℕ} → Low lo its → Rest lo st its
       → Known st.rect acc → EachPass Known l
   read_known ends h t u = (u, tt)
   read_known (refuses f) h t u = tt

@@ -1,0 +1,4 @@
+use Rattle.layout.proofs.RenderState.start.Goals as goal
+
+pub returns : goal.returns
+returns c = cc
