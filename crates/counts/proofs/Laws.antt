@@ -1,14 +1,14 @@
 -- Sums of counts, and how many characters a span's measure looks up at most.
 use Prim.Native.Nat.{ℕ, zero, suc, ◌+◌, ◌≤◌, ◌<◌}
 use native.Mathlib.Omega.{arith}
-use mathlib.Core.Path.{◌≡◌, refl, sym, ◌∙◌, ap}
+use mathlib.Core.Path.{◌≡◌, refl, ap}
 use mathlib.Core.Bool.{Bool, true, false}
 use mathlib.Core.Option.{Option, none, some}
 use mathlib.Core.List.{List, [], ◌∷◌, ◌++◌, map}
 use lib.Dec.{eqb}
 use lib.ListN.{length, take, drop, length-take}
 use Rattle.base.specs.Pick.{pick}
-use Rattle.utf8.specs.Utf8.{code_of, extra, codes, codes_from}
+use Rattle.utf8.specs.Utf8.{extra, codes, codes_from}
 use Rattle.sign.specs.Sign.{Character, Font, Sign}
 use Rattle.font.specs.Character.{character_in, letters_of}
 use Rattle.font.specs.Table.{font_numbered}
@@ -17,7 +17,6 @@ use Rattle.font.specs.declared.Found.{Found}
 use Rattle.font.specs.declared.Found.TheVariants.{Is, Missing as Absent}
 use Rattle.layout.specs.declared.Entry.{Entry}
 use Rattle.layout.specs.declared.Rect.{Rect}
-use Rattle.layout.specs.declared.Span.{Span}
 use Rattle.layout.specs.Types.{Board}
 use Rattle.layout.specs.Fonts.{chars_of}
 use Rattle.layout.specs.Placing.{record_of, pass_records}

@@ -1,7 +1,7 @@
 -- The counts of a page: its measures looked up what it prints.
-use Prim.Native.Nat.{ℕ, zero, suc, ◌+◌}
+use Prim.Native.Nat.{ℕ, zero, suc}
 use native.Mathlib.Omega.{arith}
-use mathlib.Core.Path.{◌≡◌, refl, sym, ◌∙◌, ap, subst}
+use mathlib.Core.Path.{◌≡◌, refl, sym, ◌∙◌, ap}
 use mathlib.Core.Option.{Option, none, some}
 use mathlib.Core.List.{List, [], ◌∷◌, ◌++◌, map}
 use lib.ListN.{length, drop}
@@ -11,26 +11,25 @@ use Rattle.sign.specs.Sign.{Font, Accepted, sign_file}
 use Rattle.font.specs.Table.{font_numbered}
 use Rattle.font.specs.Character.{letters_of}
 use Rattle.font.proofs.Counts.{counts}
-use Rattle.admit.specs.Admission.{Admission, admission}
+use Rattle.admit.specs.Admission.{admission}
 use Rattle.admit.proofs.Laws.{admits}
 use Rattle.layout.specs.declared.Rect.{Rect}
 use Rattle.layout.specs.declared.Entry.{Entry}
 use Rattle.layout.specs.declared.Span.{Span}
 use Rattle.layout.specs.declared.Answer.{Answer}
-use Rattle.layout.specs.declared.Answer.TheVariants.{On, Off, End, Refused}
+use Rattle.layout.specs.declared.Answer.TheVariants.{Off, End, Refused}
 use Rattle.layout.specs.Types.{items, Board}
 use Rattle.layout.specs.Fonts.{chars_of, board_of}
 use Rattle.layout.specs.Placing.{first_fault, span_fault, pass_fault, pass_records, record_of}
 use Rattle.layout.specs.Read.{Scan, Event, pass, close, stop, opening, events}
-use Rattle.layout.specs.Listing.{Page, on, off, refused, stop_at, offs, pass_stop, walk, pages, Result, numbered, result_on, result, listing, after}
+use Rattle.layout.specs.Listing.{Page, on, off, refused, stop_at, offs, pass_stop, walk, pages, Result, numbered, result, listing, after}
 use Rattle.layout.specs.Demand.{In, here, there, counted_records, Measured}
 use Rattle.layout.proofs.PassLaws.{or_none}
 use Rattle.layout.proofs.Pages.{first_none, measured}
 use Rattle.layout.proofs.Calls.{counted_is}
 use Rattle.layout.proofs.Checks.{any_result}
 use Rattle.layout.proofs.Room.{Counts, numbered_counts}
-use Rattle.counts.specs.declared.Placed.{Placed}
-use Rattle.counts.specs.Placing.{sum_of, chars_in, looked_in, chars_looked, chars_printed, with_counts, placing}
+use Rattle.counts.specs.Placing.{chars_in, looked_in, chars_looked, chars_printed, placing}
 use Rattle.counts.specs.Page.{page_records, NonePlaced, PageCounts}
 use Rattle.counts.proofs.Laws.{sum_append}
 
