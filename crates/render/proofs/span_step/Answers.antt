@@ -1,0 +1,10 @@
+use Rattle.render.proofs.Laws.{step_ways}
+use Rattle.base.specs.Pick.{picks, answers}
+use borrow.Author.Rules.{rules}
+use Rattle.render.proofs.span_step.Goals as goal
+
+pub returns-then-span-lt255 : goal.returns-then-span-lt255
+returns-then-span-lt255 c = search (step_ways, picks, answers, rules) depth 8
+
+pub returns : goal.returns
+returns c = search (step_ways, picks, answers, rules) depth 8
