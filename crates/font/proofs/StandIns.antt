@@ -71,7 +71,7 @@ lookup_append code (ch ∷ xs) ys = go (eqb ch.number code) (lookup_append code 
     go true e = refl
     go false e = e
 
--- among the stand_ins_counted a small letter is its capital
+-- among the stand-ins a small letter is its capital
 lookup_small : (code : ℕ) (chs : List Character) → is_small code ≡ true → lookup code (stand_ins chs) ≡ lookup (code - 32) chs
 unfolding lookup stand_ins
 lookup_small code [] s = refl

@@ -37,7 +37,7 @@ unfoldable pub stand_ins : List Character → List Character
 stand_ins [] = []
 stand_ins (ch ∷ chs) = pick (is_capital ch.number) (as_small ch ∷ stand_ins chs) (stand_ins chs)
 
--- the characters that every code is looked up in: the font's own, and where the file has the option the stand_ins_counted behind them. The first with a
+-- the characters that every code is looked up in: the font's own, and where the file has the option the stand-ins behind them. The first with a
 -- number is found, so that a small letter of the font's own goes before
 abbrev pub letters_of : Bool → List Character → List Character
 letters_of false chs = chs
@@ -56,7 +56,7 @@ pub record StandsIn (chs : List Character) : Type 0 where
 unfoldable pub characters_at : List ℕ → FontEntry → List Character
 characters_at file e = take e.characters (characters_of (pieces_at file e.first))
 
--- the same, with stand_ins_counted where the file has the option
+-- the same, with stand-ins where the file has the option
 unfoldable pub letters_at : List ℕ → FontEntry → Bool → List Character
 letters_at file e capitals = letters_of capitals (characters_at file e)
 

@@ -22,6 +22,6 @@ stood_in table code =
     pick (leb (length table) code) table
     (pick (eqb (get_or table code 0) 0) (set table code (get_or table (code - 32) 0)) table)
 
--- a table with the stand_ins_counted, from one of a font's own characters
+-- a table with the stand-ins, from one of a font's own characters
 abbrev pub StoodIn : List ℕ → List ℕ → Type 0
 StoodIn old table = (chs : List Character) → Widths chs old → Widths (letters_of true chs) table

@@ -130,10 +130,10 @@ ended_by (b ∷ []) h = rw (all_here (ink b) true h)
 ended_by (b ∷ c ∷ l) h = rw (all_here (ink b) (all ink (c ∷ l)) h) (ended_by (c ∷ l) (all_there (ink b) (all ink (c ∷ l)) h))
 
 -- past the table's end, and its first entry
-get_d_past : (ws : List (List ℕ)) (n : ℕ) (d : List ℕ) → length ws ≤ n → get_or ws n d ≡ d
-get_d_past [] n d h = refl
-get_d_past (w ∷ ws) zero d h = absurd (omega arith)
-get_d_past (w ∷ ws) (suc n) d h = get_d_past ws n d (omega arith)
+get_or_past : (ws : List (List ℕ)) (n : ℕ) (d : List ℕ) → length ws ≤ n → get_or ws n d ≡ d
+get_or_past [] n d h = refl
+get_or_past (w ∷ ws) zero d h = absurd (omega arith)
+get_or_past (w ∷ ws) (suc n) d h = get_or_past ws n d (omega arith)
 
 first_unknown : unknown ≡ get_or table 0 unknown
 unfolding table
@@ -273,7 +273,7 @@ different a b g h e =
 
 others : (n : ℕ) → length table ≤ n → words n ≡ words 0
 unfolding words
-others n h = get_d_past table n unknown h ∙ first_unknown
+others n h = get_or_past table n unknown h ∙ first_unknown
 
 pub worded : Worded
 worded = record { short = words_short; different = different; others = others }
