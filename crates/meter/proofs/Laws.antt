@@ -1,5 +1,5 @@
 -- A span in its font, by the code's ways.
-use Prim.Native.Nat.{ℕ, suc, ◌+◌, ◌-◌, ◌≤◌, ◌<◌}
+use Prim.Native.Nat.{ℕ, suc, ◌+◌, ◌-◌, ◌<◌}
 use mathlib.Core.Path.{◌≡◌, refl, sym, ◌∙◌, ap}
 use mathlib.Core.Option.{Option, none, some}
 use mathlib.Core.Bool.{Bool, true, false}
@@ -22,7 +22,7 @@ use Rattle.sign.specs.Accepted.{GoodFont, Bytes}
 use Rattle.sign.specs.declared.FontEntry.{FontEntry}
 use Rattle.sign.specs.declared.SignFile.{SignFile}
 use Rattle.sign.proofs.Answer.{Accepts, accepts}
-use Rattle.font.specs.Character.{character_in, characters_at, letters_at}
+use Rattle.font.specs.Character.{character_in, letters_at}
 use Rattle.font.specs.Table.{font_numbered, entry_numbered, entry_found}
 use Rattle.font.specs.Widths.{Widths}
 use Rattle.font.specs.declared.Found.{Found}
@@ -45,7 +45,7 @@ use Rattle.rows.specs.declared.Row.{Row}
 use Rattle.rows.specs.Measured.{flag, fault_number, fault_detail, gauge_of, row_by, row_of}
 use Rattle.rows.specs.declared.Fault.{Fault}
 use Rattle.rows.specs.declared.Gauge.{Gauge}
-use Rattle.meter.specs.Gauges.{meter_in, AcceptedTable, WidthsOf, CodesFit, CodeFits, WidthFound, EntryIn, part_codes, font_at, version_number, fault, fault_by, gauge_for, GaugedIn, looked_by, GaugedBy, RowTaken}
+use Rattle.meter.specs.Gauges.{meter_in, AcceptedTable, WidthsOf, CodesFit, CodeFits, WidthFound, EntryIn, part_codes, font_at, version_number, fault, fault_by, gauge_for, GaugedIn, GaugedBy, RowTaken}
 use Rattle.meter.specs.declared.Gauged.{Gauged}
 
 -- ---- widths

@@ -1,0 +1,11 @@
+use mathlib.Core.Path.{sym, ◌∙◌, ap}
+use lib.ListN.{length}
+use borrow.Author.Rules.{rules}
+use Rattle.sums.proofs.Table.{Gathering, gather_start, gather_room, gather_less, gather_on, gather_end}
+use Rattle.sums.proofs.gather.Given as goal
+
+abbrev pub invariant-loop-k : goal.invariant-loop-k
+invariant-loop-k l = Gathering l.rows l.n l.out l.at l.heads l.r l.table l.o l.k
+
+abbrev pub decreases-loop-k : goal.decreases-loop-k
+decreases-loop-k l = l.k
