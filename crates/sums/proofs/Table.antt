@@ -5,7 +5,7 @@ use mathlib.Core.Bool.{Bool, true, false}
 use mathlib.Core.List.{List, [], ◌∷◌, ◌++◌}
 use native.Mathlib.Numerals.{add-one}
 use native.Mathlib.Omega.{arith}
-use lib.Dec.{leb, ltb, eqb}
+use lib.Dec.{leb, eqb}
 use lib.ListN.{length, get_or, set, length-set, replicate}
 use lib.Seq.{get_or-set_same, get_or-set_other}
 use borrow.Author.Tests.{le-leb, lt-leb, leb-true, leb-false, eqb-true, eqb-false}
@@ -15,7 +15,7 @@ use Rattle.rows.specs.Rows.{row_at, rows_of, cell_at}
 use Rattle.sums.specs.declared.Sums.{Sums}
 use Rattle.sums.specs.Sums.{same_row, gap_of, joined, advanced, sums, none_yet, GrownTo}
 use Rattle.sums.specs.Chain.{until_last, Chained, Walk}
-use Rattle.sums.specs.Table.{upto, Small, Added, AddedRow, Tells, TableOf, Gathered, Room, Entered}
+use Rattle.sums.specs.Table.{upto, Small, Added, AddedRow, TableOf, Gathered, Room, Entered}
 use Rattle.sums.proofs.Groups.{line_is_law, same_as, alike_gap, alike_all, sums_last, advance_yes, advance_no}
 use Rattle.sums.proofs.Chain.{nil_at, walk_start, walk_begun, walk_less, walk_on, walked, walk_done}
 

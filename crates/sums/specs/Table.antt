@@ -1,6 +1,6 @@
 -- The table of a group: a row of number k adds its gap at place k and its width at place k + 1, so that what stands before a number is the sum of
 -- the places up to it.
-use Rattle.std.specs.Prelude.{ℕ, zero, suc, ◌+◌, ◌*◌, ◌≤◌, ◌<◌, ◌≡◌, true, List, [], ◌∷◌, ◌++◌, leb, ltb, length, get_or}
+use Rattle.std.specs.Prelude.{ℕ, zero, suc, ◌+◌, ◌*◌, ◌≤◌, ◌≡◌, true, List, [], ◌∷◌, ◌++◌, leb, ltb, length, get_or}
 use Rattle.base.specs.Pick.{pick}
 use Rattle.rows.specs.declared.Row.{Row}
 use Rattle.sums.specs.declared.Sums.{Sums}

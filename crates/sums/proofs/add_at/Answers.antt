@@ -11,5 +11,5 @@ bounds-table-s-2 c = let h = c.requires.2.size in search rules
 
 pub returns : goal.returns
 returns c = adds _ _ _ (omega (arith, c.requires.0, c.requires.2.size))
--- MISSING slice-copy-out-table: (λ c. let s : tie.Start = search in let h = s.pre.2.size in search rules)
 
+-- MISSING slice-copy-out-table: (λ c. let s : tie.Start = search in let h = s.pre.2.size in search rules)

@@ -1,4 +1,3 @@
-use borrow.Author.Rules.{rules}
 use Rattle.sums.proofs.Laws.{advance_join, advance_stay}
 use Rattle.sums.proofs.advance.Goals as goal
 

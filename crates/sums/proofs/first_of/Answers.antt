@@ -1,5 +1,4 @@
 use native.Mathlib.Omega.{arith}
-use borrow.Author.Rules.{rules}
 use Rattle.sums.proofs.first_of.Goals as goal
 
 pub returns : goal.returns

@@ -1,7 +1,7 @@
 use mathlib.Core.Path.{sym, ◌∙◌, ap}
 use lib.ListN.{length}
 use borrow.Author.Rules.{rules}
-use Rattle.sums.proofs.Table.{Gathering, gather_start, gather_room, gather_less, gather_on, gather_end}
+use Rattle.sums.proofs.Table.{gather_start, gather_room, gather_less, gather_on, gather_end}
 use Rattle.sums.proofs.gather.Goals as goal
 
 pub loop-k-init : goal.loop-k-init

@@ -1,7 +1,4 @@
-use mathlib.Core.Path.{sym, ◌∙◌, ap}
-use lib.ListN.{length}
-use borrow.Author.Rules.{rules}
-use Rattle.sums.proofs.Table.{Gathering, gather_start, gather_room, gather_less, gather_on, gather_end}
+use Rattle.sums.proofs.Table.{Gathering}
 use Rattle.sums.proofs.gather.Given as goal
 
 abbrev pub invariant-loop-k : goal.invariant-loop-k

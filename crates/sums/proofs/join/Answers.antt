@@ -1,4 +1,3 @@
-use borrow.Author.Rules.{rules}
 use Rattle.sums.proofs.Laws.{joins}
 use Rattle.sums.proofs.join.Goals as goal
 

@@ -1,6 +1,5 @@
 use Prim.Native.Nat.{◌-◌}
-use borrow.Author.Rules.{rules}
-use Rattle.sums.proofs.Chain.{Linking, link_start, link_on, link_end}
+use Rattle.sums.proofs.Chain.{Linking}
 use Rattle.sums.proofs.link_rows.Given as goal
 
 abbrev pub invariant-loop-k : goal.invariant-loop-k

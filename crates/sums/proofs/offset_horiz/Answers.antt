@@ -1,5 +1,5 @@
 use borrow.Author.Rules.{rules}
-use Rattle.sums.proofs.Chain.{Summing, sums_start, sums_room, sums_less, sums_on, sums_end}
+use Rattle.sums.proofs.Chain.{sums_start, sums_room, sums_less, sums_on, sums_end}
 use Rattle.sums.proofs.offset_horiz.Goals as goal
 
 pub loop-k-init : goal.loop-k-init

@@ -1,5 +1,4 @@
-use borrow.Author.Rules.{rules}
-use Rattle.sums.proofs.Chain.{Summing, sums_start, sums_room, sums_less, sums_on, sums_end}
+use Rattle.sums.proofs.Chain.{Summing}
 use Rattle.sums.proofs.offset_horiz.Given as goal
 
 abbrev pub invariant-loop-k : goal.invariant-loop-k

@@ -1,7 +1,5 @@
 use Prim.Native.Nat.{◌-◌}
-use native.Mathlib.Omega.{arith}
-use borrow.Author.Rules.{rules}
-use Rattle.sums.proofs.Table.{Reaching, reach_start, reach_fits, reach_on, reach_end}
+use Rattle.sums.proofs.Table.{Reaching}
 use Rattle.sums.proofs.sum_to.Given as goal
 
 abbrev pub invariant-loop-j : goal.invariant-loop-j
