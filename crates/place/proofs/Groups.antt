@@ -16,11 +16,10 @@ use Rattle.rows.specs.Rows.{SpanRoom, row_at, rows_of, cell_at, CellPut}
 use Rattle.rows.proofs.Laws.{cell_put, cell_stays, spans_stay}
 use Rattle.sums.specs.declared.Sums.{Sums}
 use Rattle.sums.specs.Sums.{same_row, sums, none_yet, SumsOf}
-use Rattle.sums.specs.Chain.{Chained, Walk}
+use Rattle.sums.specs.Chain.{Walk}
 use Rattle.sums.specs.Table.{upto, TableOf}
 use Rattle.sums.proofs.Groups.{Alike, alike_all}
 use Rattle.sums.proofs.Chain.{walk_start, walk_less, walk_on}
-use Rattle.place.specs.declared.Across.{Across}
 use Rattle.place.specs.Placed.{across_fault, across_at, Crossed}
 use Rattle.place.specs.Groups.{sums_at, mark_at, Marked, MarkAsked, Ready, CrossedTo, GroupAsked, OthersAsked, GroupPlaced, PlacedAcross}
 

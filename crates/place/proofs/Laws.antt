@@ -4,7 +4,7 @@ use mathlib.Core.Path.{◌≡◌, refl, sym, ◌∙◌, ap, subst}
 use mathlib.Core.Bool.{Bool, true, false, not}
 use mathlib.Core.Option.{Option, none, some}
 use mathlib.Core.List.{List, [], ◌∷◌, ◌++◌, map, append_assoc, append-nil}
-use native.Mathlib.Nat.{sub-zero, div-mul-le_self}
+use native.Mathlib.Nat.{sub-zero}
 use native.Mathlib.Omega.{arith}
 use lib.Dec.{leb, ltb, eqb}
 use lib.ListN.{length}
@@ -22,7 +22,7 @@ use Rattle.refusal.specs.declared.OptRefusal.TheVariants.{Some, None}
 use Rattle.page.specs.Scan.{fault_is}
 use Rattle.rows.specs.declared.Fault.{Fault}
 use Rattle.rows.specs.declared.Row.{Row}
-use Rattle.rows.specs.Rows.{cells, RowRoom, SpanRoom, row_at, rows_of, spans_of, put_span, SpanPut}
+use Rattle.rows.specs.Rows.{cells, RowRoom, row_at, rows_of, spans_of, SpanPut}
 use Rattle.rows.specs.Measured.{fault_of}
 use Rattle.rows.proofs.Laws.{cells_next, cells_done, spans_put, cell_ahead}
 use Rattle.sums.specs.declared.Sums.{Sums}
@@ -31,8 +31,8 @@ use Rattle.sums.specs.Chain.{ChainedTo}
 use Rattle.sums.proofs.Groups.{same_self}
 use Rattle.lines.specs.declared.PageLines.{PageLines}
 use Rattle.lines.specs.declared.Heights.{Heights}
-use Rattle.lines.specs.Lines.{font_fault_from, PageHeights, foot_in, heights_in}
-use Rattle.lines.proofs.Offsets.{HeightsOf, foot_fits, heights_are}
+use Rattle.lines.specs.Lines.{PageHeights, heights_in}
+use Rattle.lines.proofs.Offsets.{HeightsOf, heights_are}
 use Rattle.place.specs.declared.Across.{Across}
 use Rattle.place.specs.declared.Placed.{Placed}
 use Rattle.place.specs.declared.Placed.TheVariants.{At, Refused}
