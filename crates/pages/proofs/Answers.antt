@@ -15,7 +15,7 @@ use Rattle.sign.specs.declared.SignFile.{SignFile}
 use Rattle.layout.specs.declared.RenderState.{RenderState}
 use Rattle.layout.specs.Types.{Item, items, Board}
 use Rattle.layout.specs.Read.{Scan, scan, stop_if, start, read, opening, events}
-use Rattle.layout.specs.Listing.{Page, on, off, refused as refused_page, offs, walk, pages}
+use Rattle.layout.specs.Listing.{Page, on, refused as refused_page, offs, walk, pages}
 use Rattle.refusal.specs.declared.OptRefusal.{OptRefusal}
 use Rattle.refusal.specs.declared.OptRefusal.TheVariants.{Some, None}
 use Rattle.page.specs.declared.PageScan.{PageScan}
