@@ -1,14 +1,13 @@
 -- An answer as the code gives it: with its records in a slice of numbers.
-use Rattle.std.specs.Prelude.{ℕ, ◌≤◌, ◌<◌, ◌≡◌, List, [], ltb, length}
+use Rattle.std.specs.Prelude.{ℕ, ◌≤◌, ◌<◌, ◌≡◌, List, [], length}
 use Rattle.base.specs.Pick.{pick}
-use Rattle.refusal.specs.Refusals.{refusal}
 use Rattle.sign.specs.Sign.{sign_file}
 use Rattle.sign.specs.declared.SignFile.{SignFile}
 use Rattle.layout.specs.declared.Span.{Span}
 use Rattle.layout.specs.declared.Answer.{Answer}
 use Rattle.layout.specs.declared.Answer.TheVariants.{On, Off, End, Refused}
 use Rattle.layout.specs.Types.{items}
-use Rattle.layout.specs.Listing.{Result, said, pages, numbered, result}
+use Rattle.layout.specs.Listing.{Result, pages, numbered, result}
 use Rattle.counts.specs.declared.Placed.{Placed}
 use Rattle.counts.specs.Placing.{chars_looked, with_counts}
 use Rattle.rows.specs.Rows.{SpanRoom, spans_of}

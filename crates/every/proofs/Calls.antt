@@ -17,14 +17,12 @@ use Rattle.records.specs.declared.Config.{Config}
 use Rattle.sign.specs.Sign.{Font}
 use Rattle.admit.specs.Admission.{Admission, denied, admitted, admission}
 use Rattle.layout.specs.declared.Span.{Span}
-use Rattle.layout.specs.declared.Answer.{Answer}
 use Rattle.layout.specs.declared.Answer.TheVariants.{On, Off, End, Refused as RefusedAnswer}
 use Rattle.layout.specs.Types.{items}
 use Rattle.layout.specs.Fonts.{board_of}
 use Rattle.layout.specs.Listing.{Page, on, off, refused, pages, Result, said, numbered, result_on, result, listing, after}
-use Rattle.layout.specs.Demand.{Shows, Whole, counted_records, listed}
+use Rattle.layout.specs.Demand.{Shows, counted_records, listed}
 use Rattle.every.specs.declared.Shown.{Shown}
-use Rattle.every.specs.declared.Counts.{Counts}
 use Rattle.every.specs.declared.Counts.TheVariants.{Listed, Refused}
 use Rattle.every.specs.All.{shown, answers_in, records_in, refusal_in, Gathered, none_but, gather, gathered_on, gathered, counts_of, unless_refused, over, listing_all, answers_after, records_after}
 use Rattle.every.specs.Calls.{answer_told, records_told, answer_at, Roomy, AsCalled, FirstRefused, WholeListing}

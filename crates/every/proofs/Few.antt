@@ -34,7 +34,7 @@ use Rattle.layout.specs.declared.Entry.{Entry}
 use Rattle.layout.specs.Types.{Item, item_at, items, Board}
 use Rattle.layout.specs.Placing.{pass_records, record_of}
 use Rattle.layout.specs.Read.{Scan, Event, pass, close, stop, opening, events}
-use Rattle.layout.specs.Listing.{Page, on, off, refused, stop_at, offs, pass_stop, walk, pages}
+use Rattle.layout.specs.Listing.{Page, on, stop_at, offs, pass_stop, walk, pages}
 use Rattle.layout.specs.Demand.{Role, text, hexadecimal, rectangle, page_just, new_page, other, role_in}
 use Rattle.layout.specs.Bounds.{breaks}
 use Rattle.layout.proofs.Cover.{ReadAs, ends, refuses, goes, emits, cuts as cut_off, turns, fails, EventsAs, refused_at_once, begun, events_as, entries}

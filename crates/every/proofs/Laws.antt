@@ -8,14 +8,13 @@ use mathlib.Core.Bool.{Bool, true, false}
 use mathlib.Core.Option.{Option, none, some}
 use mathlib.Core.List.{List, [], ◌∷◌, ◌++◌, append_assoc, append-nil}
 use lib.Dec.{ltb}
-use lib.ListN.{length, get_or, set, take, drop, length-append, length-take, length-drop, length-set, drop_of_length-le}
+use lib.ListN.{length, set, take, drop, length-append, length-drop, length-set, drop_of_length-le}
 use lib.Seq.{take-nil, take_all, take-take, take_at, drop_at, drop-drop, drop-set-lt, length-take-le, sets}
 use mir.Val as Val
 use mir.Syntax.{w64}
 use borrow.Author.Tests.{lt-ltb, le-ltb, ltb-true, ltb-false}
 use Rattle.base.specs.Pick.{pick}
 use Rattle.refusal.specs.declared.Refusal.{Refusal}
-use Rattle.refusal.specs.declared.OptRefusal.{OptRefusal}
 use Rattle.refusal.specs.declared.OptRefusal.TheVariants.{Some, None}
 use Rattle.refusal.specs.Refusals.{refusal}
 use Rattle.records.specs.declared.Config.{Config}
@@ -28,9 +27,9 @@ use Rattle.admit.proofs.Laws.{Opens, admits, denied_is, opens}
 use Rattle.layout.specs.declared.Span.{Span}
 use Rattle.layout.specs.Types.{items, Board}
 use Rattle.layout.specs.Fonts.{meter_of, board_of}
-use Rattle.layout.specs.Listing.{Page, on, off, refused as refused_page, pages}
+use Rattle.layout.specs.Listing.{Page, on, off, pages}
 use Rattle.page.specs.Scan.{fault_is}
-use Rattle.rows.specs.Rows.{cells, cells_at, stored, span_width, RowRoom, SpanRoom, span_from, span_at, spans_of}
+use Rattle.rows.specs.Rows.{cells, cells_at, span_width, span_from, span_at, spans_of}
 use Rattle.rows.proofs.Laws.{cells_same, cells_length, part, one_more, spans_length}
 use Rattle.counts.specs.Placing.{fonts_in, capitals_in}
 use Rattle.meter.specs.Gauges.{meter_in}
@@ -38,14 +37,14 @@ use Rattle.pages.specs.declared.Pages.{Pages}
 use Rattle.pages.specs.declared.PageShown.{PageShown}
 use Rattle.pages.specs.declared.NextPage.{NextPage}
 use Rattle.pages.specs.declared.NextPage.TheVariants.{Page as NextShown, End as NextNone, Refused as NextRefused}
-use Rattle.pages.specs.Pages.{board_in, Ready, first_of, todo, shown_page, next_told, InMessage, weight, IfShown, Advances, NextAsked, NextRead}
+use Rattle.pages.specs.Pages.{board_in, first_of, todo, next_told, InMessage, weight, IfShown, Advances, NextAsked, NextRead}
 use Rattle.pages.proofs.Answers.{pages_todo, first_in_law}
 use Rattle.every.specs.declared.Shown.{Shown}
 use Rattle.every.specs.declared.Walked.{Walked}
 use Rattle.every.specs.declared.AllCount.{AllCount}
 use Rattle.every.specs.declared.Counts.TheVariants.{Listed, Refused}
 use Rattle.every.specs.All.{shown, answers_in, records_in, refusal_in, Gathered, gather, none_but, gathered_on, gathered, counts_of, unless_refused}
-use Rattle.every.specs.Walk.{records_from, shown_numbers, shown_from, shown_at, showns_of, ShownRoom, ShownPut, Countable, shown_by, ShownAs, AllRoom, Walkable, WalkAsked, walked_to, told, Walks, WalksWith, LongRoom, Gathers, settled_on, settled_by, Settles}
+use Rattle.every.specs.Walk.{records_from, shown_numbers, shown_from, shown_at, showns_of, ShownRoom, ShownPut, Countable, shown_by, ShownAs, Walkable, WalkAsked, walked_to, told, Walks, WalksWith, LongRoom, Gathers, settled_on, settled_by, Settles}
 use Rattle.every.proofs.Few.{answers_few, records_few}
 
 -- ---- rows of numbers at the start of a list

@@ -7,17 +7,15 @@ use Rattle.refusal.specs.declared.OptRefusal.{OptRefusal}
 use Rattle.refusal.specs.declared.OptRefusal.TheVariants.{Some, None}
 use Rattle.refusal.specs.Refusals.{refusal}
 use Rattle.sign.specs.declared.SignFile.{SignFile}
-use Rattle.layout.specs.declared.Span.{Span}
 use Rattle.layout.specs.Types.{items}
-use Rattle.layout.specs.Listing.{Page, pages}
+use Rattle.layout.specs.Listing.{pages}
 use Rattle.page.specs.Scan.{fault_is}
-use Rattle.rows.specs.Rows.{cells, cells_at, span_width, RowRoom, SpanRoom, spans_of}
+use Rattle.rows.specs.Rows.{cells, cells_at, span_width, RowRoom, spans_of}
 use Rattle.meter.specs.Gauges.{AcceptedTable}
 use Rattle.pages.specs.declared.PageShown.{PageShown}
 use Rattle.pages.specs.Pages.{board_in}
 use Rattle.every.specs.declared.Shown.{Shown}
 use Rattle.every.specs.declared.Walked.{Walked}
-use Rattle.every.specs.declared.Counts.{Counts}
 use Rattle.every.specs.declared.AllCount.{AllCount}
 use Rattle.every.specs.All.{shown, Gathered, gather, none_but, gathered, counts_of, unless_refused}
 
