@@ -1,12 +1,2 @@
-pub mod Counted
-pub mod Each
-pub mod Filled
-pub mod Lent
-pub mod Loan
-pub mod Locals
+pub mod Calls
 pub mod Over
-pub mod Pair
-pub mod Placed
-pub mod Thin
-pub mod Through
-pub mod Writer
