@@ -1,9 +1,9 @@
-// Links the static library that `rt staticlib kambelohi` writes.
+// Links the static library that `rt lib` writes in crates/kambelohi.
 use std::path::Path;
 
 fn main() {
     let here = std::env::var("CARGO_MANIFEST_DIR").unwrap();
-    let dir = Path::new(&here).join("../../target/staticlib");
+    let dir = Path::new(&here).join("../../crates/kambelohi/out");
     let library = dir.join("libkambelohi.a");
     println!("cargo:rerun-if-changed={}", library.display());
     println!("cargo:rustc-link-search=native={}", dir.display());

@@ -1,55 +1,54 @@
 // Prints what a message on standard input says, slice by slice: start, length, the value's code and its eight numbers (tests/FORMAT.md).
 // A slice that is refused prints "refused", number, start, length and detail. The last line is "end" with the message's length.
-// Long times hold if sign.bin in the current folder is a sign file that has them.
+// Long times hold if sign.bin in the current folder is a sign file that has them. A write that fails is passed over.
 #![tactic(auto)]
 
-use libc::{STDIN_FILENO, STDOUT_FILENO};
 use reading::Reading;
 use refusal::Refusal;
+use std::rt::Files;
 use value::{Place, Value};
 
-fn print(n: u32) {
-    io::write_all(STDOUT_FILENO, b" ");
-    io::print_decimal(STDOUT_FILENO, n as u64);
+fn print(rt: &impl Print, n: u32) {
+    let _ = print!(rt; " {n}");
 }
 
-fn print_slice(p: Place, v: Value) {
-    io::print_decimal(STDOUT_FILENO, p.start as u64);
-    print(p.len as u32);
+fn print_slice(rt: &impl Print, p: Place, v: Value) {
+    let _ = print!(rt; "{}", p.start);
+    print(rt, p.len as u32);
     let m = numbers::numbers_of(v);
-    print(m.code);
+    print(rt, m.code);
     let n = m.n;
-    print(n[0]);
-    print(n[1]);
-    print(n[2]);
-    print(n[3]);
-    print(n[4]);
-    print(n[5]);
-    print(n[6]);
-    print(n[7]);
-    io::write_all(STDOUT_FILENO, b"\n");
+    print(rt, n[0]);
+    print(rt, n[1]);
+    print(rt, n[2]);
+    print(rt, n[3]);
+    print(rt, n[4]);
+    print(rt, n[5]);
+    print(rt, n[6]);
+    print(rt, n[7]);
+    let _ = println!(rt);
 }
 
-fn print_refusal(r: Refusal) {
-    io::write_all(STDOUT_FILENO, b"refused");
-    print(base::wide32(r.number));
-    print(r.start as u32);
-    print(r.length as u32);
-    print(r.detail as u32);
-    io::write_all(STDOUT_FILENO, b"\n");
+fn print_refusal(rt: &impl Print, r: Refusal) {
+    let _ = print!(rt; "refused");
+    print(rt, base::wide32(r.number));
+    print(rt, r.start as u32);
+    print(rt, r.length as u32);
+    print(rt, r.detail as u32);
+    let _ = println!(rt);
 }
 
 // Prints what stands at a place. The place of the next slice, or the end where the message is refused as a whole.
-fn print_at(msg: &[u8], at: usize, long: bool) -> usize {
+fn print_at(rt: &impl Print, msg: &[u8], at: usize, long: bool) -> usize {
     let r = reading::read(msg, at, long);
     match r {
         Reading::Slice(p, v) => {
-            print_slice(p, v);
+            print_slice(rt, p, v);
             token::slice_end(msg, at)
         }
         Reading::End => msg.len(),
         Reading::Refused(f) => {
-            print_refusal(f);
+            print_refusal(rt, f);
             if f.number < 5 {
                 return msg.len();
             }
@@ -59,31 +58,29 @@ fn print_at(msg: &[u8], at: usize, long: bool) -> usize {
 }
 
 // Prints every slice of a message.
-fn print_all(msg: &[u8], long: bool) {
+fn print_all(rt: &impl Print, msg: &[u8], long: bool) {
     let mut at = 0;
     while at < msg.len() {
-        let next = print_at(msg, at, long);
+        let next = print_at(rt, msg, at, long);
         if next <= at {
             return;
         }
         at = next;
     }
-    io::write_all(STDOUT_FILENO, b"end ");
-    io::print_decimal(STDOUT_FILENO, msg.len() as u64);
-    io::write_all(STDOUT_FILENO, b"\n");
+    let _ = println!(rt; "end {}", msg.len());
 }
 
 // Whether the sign file has long times; one that is refused has none.
-fn long_times() -> bool {
-    let mut buf = io::large_buffer();
-    let n = signbin::load(&mut buf);
+fn long_times(rt: &impl Files) -> bool {
+    let mut buf = [0u8; 65536];
+    let n = signbin::load(rt, &mut buf);
     let table = sign::read_sign(&buf[..n]);
     let config = table.config;
     config.long_times
 }
 
-fn main() {
+fn main(rt: HostRuntime) {
     let mut buf = [0u8; 2049];
-    let n = io::read_full(STDIN_FILENO, &mut buf);
-    print_all(&buf[..n], long_times());
+    let n = signbin::read_full(&mut rt.stdin(), &mut buf);
+    print_all(&rt, &buf[..n], long_times(&rt));
 }

@@ -3,7 +3,7 @@ use Rattle.std.specs.Prelude.{ℕ, ◌+◌, ◌-◌, ◌*◌, ◌≤◌, ◌≡�
 use Rattle.base.specs.Pick.{pick}
 use Rattle.number.specs.Number.{read_number}
 use Rattle.number.specs.declared.Number.{Number}
-use Rattle.number.specs.declared.Number.TheVariants.{Is, Refused as None}
+use Rattle.number.specs.declared.Number.TheVariants.{Is, Refused}
 use Rattle.replay.specs.declared.Window.{Window}
 use Rattle.replay.specs.declared.Bytes.{Bytes}
 
@@ -21,8 +21,8 @@ pub record Within (w : Window) (n : ℕ) : Type 0 where
 -- a decimal number without a sign and without leading zeros
 unfoldable pub plain_number : List ℕ → Number
 plain_number w =
-    pick (eqb (get_or w 0 0) 43) None
-    (pick (eqb (get_or w 0 0) 48) (pick (ltb 1 (length w)) None (Is 0)) (read_number 10 4294967295 w))
+    pick (eqb (get_or w 0 0) 43) Refused
+    (pick (eqb (get_or w 0 0) 48) (pick (ltb 1 (length w)) Refused (Is 0)) (read_number 10 4294967295 w))
 
 -- the value of a hexadecimal digit in lower case, 16 where it is none
 unfoldable pub nibble_of : ℕ → ℕ

@@ -1,9 +1,9 @@
-// Reading an answer stream on standard input, and what is printed.
+// Reading an answer stream on standard input, and what is printed. A write that fails is passed over.
 ghost use Rattle.std.specs.Prelude.{◌≤◌, ◌<◌, length};
 ghost use Rattle.replay.specs.Text.{Within};
 
 use crate::{Stream, Window, line_end, slide, start, up};
-use libc::{STDIN_FILENO, STDOUT_FILENO};
+use std::io::Read;
 
 // A place in the input, of which a buffer holds a window.
 // came: the last line that came, and where its case starts. was, stream: the places of the stream before and after it.
@@ -65,14 +65,13 @@ impl Input {
     }
 
     // Moves what the buffer holds to its front and reads more behind it; where nothing comes or the buffer is full, the input ended.
-    fn filled(mut self, buf: &mut [u8]) -> Input
+    fn filled(mut self, stdin: &mut impl Read, buf: &mut [u8]) -> Input
         requires { Within self.window (length buf.old) }
         ensures { Within result.window (length buf.new) × Within result.came (length buf.new) }
     {
         let front = slide(buf, self.window);
         let end = front.end;
-        let got = libc::read(STDIN_FILENO, &mut buf[end..]);
-        let more = io::count(got, &buf[end..]);
+        let more = stdin.read(&mut buf[end..]).unwrap_or(0);
         let w = Window {
             start: front.start,
             at: front.at,
@@ -90,7 +89,7 @@ impl Input {
     }
 
     // After the next line, or more input.
-    pub fn next(self, buf: &mut [u8], keep: bool) -> Input
+    pub fn next(self, stdin: &mut impl Read, buf: &mut [u8], keep: bool) -> Input
         requires { Within self.window (length buf.old) }
         ensures { Within result.window (length buf.new) × Within result.came (length buf.new) }
     {
@@ -101,7 +100,7 @@ impl Input {
         if stop < end {
             return self.taken(&buf[at..stop], stop, keep);
         }
-        self.filled(buf)
+        self.filled(stdin, buf)
     }
 
     // Whether the input ended where the stream did.
@@ -113,26 +112,19 @@ impl Input {
 }
 
 // `D 12 of 13 agree`
-pub fn print_score(kind: u8, agree: u32, cases: u32) {
-    io::write_all(STDOUT_FILENO, &[kind, b' ']);
-    io::print_decimal(STDOUT_FILENO, agree as u64);
-    io::write_all(STDOUT_FILENO, b" of ");
-    io::print_decimal(STDOUT_FILENO, cases as u64);
-    io::write_all(STDOUT_FILENO, b" agree\n");
+pub fn print_score(rt: &impl Print, kind: u8, agree: u32, cases: u32) {
+    let _ = rt.write_all(&[kind]);
+    let _ = println!(rt; " {agree} of {cases} agree");
 }
 
 // `bad stream at line 12`
-pub fn print_bad(line: u32) {
-    io::write_all(STDOUT_FILENO, b"bad stream at line ");
-    io::print_decimal(STDOUT_FILENO, line as u64);
-    io::write_all(STDOUT_FILENO, b"\n");
+pub fn print_bad(rt: &impl Print, line: u32) {
+    let _ = println!(rt; "bad stream at line {line}");
 }
 
 // `line 12 does not agree: D 8 30`
-pub fn print_other(line: u32, case: &[u8]) {
-    io::write_all(STDOUT_FILENO, b"line ");
-    io::print_decimal(STDOUT_FILENO, line as u64);
-    io::write_all(STDOUT_FILENO, b" does not agree: ");
-    io::write_all(STDOUT_FILENO, case);
-    io::write_all(STDOUT_FILENO, b"\n");
+pub fn print_other(rt: &impl Print, line: u32, case: &[u8]) {
+    let _ = print!(rt; "line {line} does not agree: ");
+    let _ = rt.write_all(case);
+    let _ = println!(rt);
 }

@@ -292,19 +292,19 @@ impl Check {
     }
 
     // After the last line of an answer: the case is counted, and told if it does not agree.
-    fn counted(mut self) -> Check
+    fn counted(mut self, rt: &impl Print) -> Check
         ensures { BothFit result self.len self.text }
     {
         self.cases = replay::up(self.cases);
         if self.other == 0 {
             return self.agreeing();
         }
-        replay::print_other(self.other, b"L");
+        replay::print_other(rt, self.other, b"L");
         self
     }
 
     // After a line, between two places of the stream.
-    fn settled(self, was: Stream, then: Stream) -> Check
+    fn settled(self, rt: &impl Print, was: Stream, then: Stream) -> Check
         ensures { BothFit result self.len self.text }
     {
         let old = was.phase;
@@ -313,7 +313,7 @@ impl Check {
             return self;
         }
         if lists(old) {
-            return self.counted();
+            return self.counted(rt);
         }
         self
     }
@@ -321,6 +321,7 @@ impl Check {
     // After a turn of the input, whose bytes buf holds.
     pub fn after_turn(
         self,
+        rt: &impl Print,
         input: Input,
         buf: &[u8],
         file: &mut [u8],
@@ -337,6 +338,6 @@ impl Check {
         let at = line.at;
         let end = line.end;
         let check = self.turn(&buf[at..end], input.line, input.was, file, msg, out);
-        check.settled(input.was, input.stream)
+        check.settled(rt, input.was, input.stream)
     }
 }

@@ -171,7 +171,7 @@ impl Check {
     }
 
     // After the last line of an answer: the case is counted, and told if it does not agree.
-    fn counted(mut self) -> Check
+    fn counted(mut self, rt: &impl Print) -> Check
         ensures { result.len ≤ self.len }
     {
         self.cases = replay::up(self.cases);
@@ -179,12 +179,12 @@ impl Check {
             self.agreed = replay::up(self.agreed);
             return self;
         }
-        replay::print_other(self.line, b"I");
+        replay::print_other(rt, self.line, b"I");
         self
     }
 
     // After a line, between two places of the stream.
-    fn settled(self, was: Stream, then: Stream) -> Check
+    fn settled(self, rt: &impl Print, was: Stream, then: Stream) -> Check
         ensures { result.len ≤ self.len }
     {
         if then.answers() {
@@ -192,7 +192,7 @@ impl Check {
         }
         if was.answers() {
             if was.kind == b'I' {
-                return self.counted();
+                return self.counted(rt);
             }
             return self;
         }
@@ -200,7 +200,7 @@ impl Check {
     }
 
     // After a turn of the input, whose bytes buf holds.
-    pub fn after_turn(self, input: Input, buf: &[u8], file: &mut [u8]) -> Check
+    pub fn after_turn(self, rt: &impl Print, input: Input, buf: &[u8], file: &mut [u8]) -> Check
         requires { Within input.came (length buf.now) × (self.len ≤ length file.old) }
         ensures { result.len ≤ length file.new }
     {
@@ -211,7 +211,7 @@ impl Check {
         let at = line.at;
         let end = line.end;
         let check = self.turn(&buf[at..end], input.line, input.was, file);
-        check.settled(input.was, input.stream)
+        check.settled(rt, input.was, input.stream)
     }
 }
 
