@@ -1,4 +1,4 @@
-// What C and Rust link: the calls, with structs of numbers for answers. include/kambelohi.h says the same in C.
+// The calls that C and Rust link, with structs of numbers for answers: crate kambelohi_c exports them. include/kambelohi.h says the same in C.
 #![tactic(auto)]
 
 ghost use Rattle.std.specs.Prelude.{◌≡◌};
@@ -71,8 +71,7 @@ fn read_answer(r: Reading) -> ReadAnswer
 }
 
 // Reading: message, offset, and whether long times hold.
-#[unsafe(no_mangle)]
-pub extern "C" fn kambelohi_read(msg: &[u8], offset: usize, long_times: bool) -> ReadAnswer
+pub fn kambelohi_read(msg: &[u8], offset: usize, long_times: bool) -> ReadAnswer
     ensures { result ≡ read_answer (reading_of long_times msg.now offset) }
 {
     read_answer(reading::read(msg, offset, long_times))
@@ -128,8 +127,7 @@ fn list_answer(a: Answer) -> ListAnswer
 }
 
 // Listing: sign file, message, answer number from 0, and the lent slice.
-#[unsafe(no_mangle)]
-pub extern "C" fn kambelohi_list(
+pub fn kambelohi_list(
     file: &[u8],
     message: &[u8],
     answer: usize,
@@ -205,8 +203,7 @@ fn place_answer(p: Placed) -> PlaceAnswer
 }
 
 // Placing: sign file, message, answer number from 0, and the lent slice.
-#[unsafe(no_mangle)]
-pub extern "C" fn kambelohi_place(
+pub fn kambelohi_place(
     file: &[u8],
     message: &[u8],
     answer: usize,
@@ -258,8 +255,7 @@ fn list_all_answer(c: Counts) -> ListAllAnswer
 }
 
 // The whole listing: sign file, message, the lent slice of answers and that of records.
-#[unsafe(no_mangle)]
-pub extern "C" fn kambelohi_list_all(
+pub fn kambelohi_list_all(
     file: &[u8],
     message: &[u8],
     answers: &mut [Shown],
@@ -309,8 +305,7 @@ fn sentence_answer(t: Told) -> SentenceAnswer
 }
 
 // The refusal with these numbers as a sentence in the lent buffer.
-#[unsafe(no_mangle)]
-pub extern "C" fn kambelohi_sentence(
+pub fn kambelohi_sentence(
     number: u8,
     start: u16,
     length: u16,
