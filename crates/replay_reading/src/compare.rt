@@ -111,7 +111,7 @@ fn is_answer(line: &[u8], n: Number) -> bool {
     }
 }
 
-// Why a message is refused as a whole: 2 too long, 3 ill_formed; 0 where it is not.
+// Why a message is refused as a whole: 2 too long, 3 ill-formed; 0 where it is not.
 fn whole(msg: &[u8]) -> u64 {
     if 2048 < msg.len() {
         return 2;
