@@ -127,12 +127,7 @@ fn list_answer(a: Answer) -> ListAnswer
 }
 
 // Listing: sign file, message, answer number from 0, and the lent slice.
-pub fn kambelohi_list(
-    file: &[u8],
-    message: &[u8],
-    answer: usize,
-    recs: &mut [Span],
-) -> ListAnswer
+pub fn kambelohi_list(file: &[u8], message: &[u8], answer: usize, recs: &mut [Span]) -> ListAnswer
     ensures { (result ≡ list_answer (listing_of file.now message.now answer recs.old))
         × (recs.new ≡ after_of file.now message.now answer recs.old) }
 {
@@ -203,12 +198,7 @@ fn place_answer(p: Placed) -> PlaceAnswer
 }
 
 // Placing: sign file, message, answer number from 0, and the lent slice.
-pub fn kambelohi_place(
-    file: &[u8],
-    message: &[u8],
-    answer: usize,
-    recs: &mut [Span],
-) -> PlaceAnswer
+pub fn kambelohi_place(file: &[u8], message: &[u8], answer: usize, recs: &mut [Span]) -> PlaceAnswer
     ensures { (result ≡ place_answer (placing_of file.now message.now answer recs.old))
         × (recs.new ≡ after_of file.now message.now answer recs.old) }
 {
