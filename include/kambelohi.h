@@ -3,8 +3,8 @@
  *
  * Five calls: kambelohi_read says what stands at an offset of a MULTI message, kambelohi_list where the text of a page stands
  * on a sign, kambelohi_place the same with two counts, kambelohi_list_all the same of all its pages at once, and
- * kambelohi_sentence writes a refusal as an English sentence. Link crates/kambelohi/out/libkambelohi.a (x86-64 Linux), which
- * `rt lib` writes in crates/kambelohi. Of the C library it needs memcpy and memset, and nothing else.
+ * kambelohi_sentence writes a refusal as an English sentence. Link target/staticlib/libkambelohi.a (x86-64 Linux), which
+ * `tools/staticlib` writes. Of the C library it needs memcpy and memset, and nothing else.
  *
  * What is said here of answers, records and sentences follows from contracts that are proved of the code
  * (crates/kambelohi/src/lib.rt), for any bytes, any lengths, any offset or answer number, and any numbers of a refusal. A call
