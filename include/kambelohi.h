@@ -42,7 +42,7 @@ enum {
     KAMBELOHI_LIST_STACK = 212992,
     KAMBELOHI_PLACE_STACK = 212992,
     KAMBELOHI_LIST_ALL_STACK = 282624,
-    KAMBELOHI_SENTENCE_STACK = 704
+    KAMBELOHI_SENTENCE_STACK = 80
 };
 
 /* A longer sign file is refused with 1, a longer message with 2. */
