@@ -1,4 +1,5 @@
--- The first n elements of a list overwritten, each as f says: none, the length, and one more.
+-- The first n elements of a list overwritten, each as f says: none, the length, one more, and all that a writer stores.
+use native.Mathlib.Numerals.{add-one}
 use mathlib.Core.Path.{◌≡◌, refl, sym, ◌∙◌, ap}
 use Prim.Native.Nat.{ℕ, suc, ◌+◌, ◌<◌, ◌≤◌}
 use native.Mathlib.Omega.{arith}
@@ -27,3 +28,10 @@ module _ {A : Type 0} (f : ℕ → A) where
       ∙ set_at (cells f 0 n) (get_or ys n (f n)) (drop (suc n) ys) (f n) n (cells_length f 0 n)
       ∙ sym (append_snoc (cells f 0 n) (f n) (drop (suc n) ys))
       ∙ ap (λ (z : List A). z ++ drop (suc n) ys) (sym (cells_next n))
+
+  -- a writer's loop: one more element is stored, and all n are
+  pub over_more : (n : ℕ) (l ys : List A) (x : A) → l ≡ overwritten n ys → x ≡ f n → n < length ys → set l n x ≡ overwritten (n + 1) ys
+  over_more n l ys x e q h = rw (add-one, e, q) (over_one n ys h)
+
+  pub over_all : (i n : ℕ) (l ys : List A) → l ≡ overwritten i ys → i ≡ n → l ≡ overwritten n ys
+  over_all i n l ys e q = rw (← q) e
