@@ -7,7 +7,7 @@
  * `tools/staticlib` writes. Of the C library it needs memcpy and memset, and nothing else.
  *
  * What is said here of answers, records and sentences follows from contracts that are proved of the code
- * (crates/kambelohi/src/lib.rt), for any bytes, any lengths, any offset or answer number, and any numbers of a refusal. A call
+ * (crates/kambelohi_c/src/lib.rt), for any bytes, any lengths, any offset or answer number, and any numbers of a refusal. A call
  * always returns, and keeps nothing.
  *
  * What the proofs take for granted, and no call can check, is that every pointer
