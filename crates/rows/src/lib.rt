@@ -1,7 +1,8 @@
 // Measured entries and placed spans: the rows of a pass and the records of an answer, each in a lent slice.
 #![tactic(auto)]
 
-ghost use Rattle.std.specs.Prelude.{◌≡◌, ◌<◌, length};
+ghost use Rattle.std.specs.Prelude.{◌≡◌, ◌+◌, ◌<◌, length};
+ghost use Rattle.layout.specs.Placing.{half_up};
 ghost use Rattle.rows.specs.Measured.{flag as flag_of, row_by};
 ghost use Rattle.rows.specs.Rows.{link_at, mark_at, LinkPut, MarkPut};
 
@@ -157,4 +158,12 @@ pub fn put_mark(out: &mut [Span], i: usize, mark: u16)
     ensures { MarkPut out.old i mark out.new }
 {
     out[i].x = mark;
+}
+
+// Half of two spacings, rounded up.
+pub fn half_up(a: u16, b: u16) -> u32
+    ensures average { result ≡ half_up (a + b) }
+    ensures small { result < 65536 }
+{
+    (u32::from(a) + u32::from(b) + 1) / 2
 }
