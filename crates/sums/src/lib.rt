@@ -40,7 +40,7 @@ impl Sums {
         if e.fixed {
             return u64::from(e.spacing);
         }
-        (u64::from(self.spacing) + u64::from(e.spacing)).div_ceil(2)
+        u64::from(rows::half_up(self.spacing, e.spacing))
     }
 
     // With a row more of the group, for span number n.
