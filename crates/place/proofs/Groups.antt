@@ -137,8 +137,8 @@ module _ {p : Pass} {out₀ : List Span} {r : Row} {total : ℕ} {table : List �
         let w : p.rect.left + p.rect.width ≤ 4096 = p.across in
         omega (arith, z.asked.wide)
 
-    pub mark_reach : s' < 256 → (s' < 256) × (sum ≡ upto table s) × (upto table s' ≤ 17592186044416)
-    mark_reach h = (h, z.reached, omega (arith, before_is, total_is, wide))
+    pub mark_reach : upto table s' ≤ 17592186044416
+    mark_reach = omega (arith, before_is, total_is, wide)
 
     module _ {sum' : ℕ} (er : sum' ≡ upto table s') where
       pub mark_within : sum' ≤ total

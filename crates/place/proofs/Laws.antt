@@ -10,7 +10,9 @@ use lib.ListN.{length, set, take, drop}
 use Rattle.std.specs.Prelude.{Result, Ok, Err, Some, None}
 use Rattle.std.specs.Prelude.{Option as Opt}
 use Rattle.std.specs.Option.{option_or}
-use Rattle.std.proofs.lemmas.List.{at_drop_more, at_drop_all, take_more, take_more_set, take_all, get_or-take, length-take-le, length-set, map-append, take-append-drop, nil_from_length}
+use borrow.Rule.Slice.PartMut.{put_mid}
+use Rattle.std.proofs.lemmas.Slice.{take-put_mid}
+use Rattle.std.proofs.lemmas.List.{length-map, length-drop, at_drop_more, at_drop_all, take_more, take_more_set, take_all, get_or-take, length-take-le, length-set, map-append, take-append-drop, nil_from_length}
 use borrow.Author.Tests.{le-ltb, le-leb, lt-leb, ltb-true}
 use Rattle.base.specs.Pick.{pick}
 use Rattle.refusal.specs.declared.Refusal.{Refusal}
@@ -21,7 +23,7 @@ use Rattle.refusal.specs.Refusals.{refusal}
 use Rattle.layout.specs.Placing.{or_else, unless, first_fault, place_x}
 use Rattle.rows.specs.declared.Fault.{Fault}
 use Rattle.rows.specs.declared.Row.{Row}
-use Rattle.rows.specs.Rows.{blank_row, row_at, mark_at}
+use Rattle.rows.specs.Rows.{blank_row, row_at, rows_of, spans_of, mark_at}
 use Rattle.rows.specs.Measured.{fault_of}
 use Rattle.rows.proofs.Laws.{span_stays}
 use Rattle.sums.specs.declared.Sums.{Sums}
@@ -418,3 +420,20 @@ pass_on {p} e d =
       fault = d.fault ∙ sym (none_first (back_rows 0 0 0 p.rows.now) (first_fault (span_fault_at p.config p.rect p.rows.now) p.rows.now) (sym e));
       written = d.written;
     }
+
+-- ---- a pass of the first n rows of a slice, with the records from number at on of another
+
+pub asks_part : {q : Rect} (rows : List Row) (n : ℕ) (out : List Span) (at : ℕ) → at + n ≤ 2048 → n ≤ length rows → at + n ≤ length out
+    → q.left + q.width ≤ 4096 → q.top + q.height ≤ 4096 → Placeable q (rows_of rows n) (take (at + n - at) (drop at out))
+asks_part rows n out at f h k a d =
+    let x : length (rows_of rows n) ≡ n = length-take-le n rows h in
+    let y : length (take (at + n - at) (drop at out)) ≡ at + n - at = length-take-le (at + n - at) (drop at out) (omega (arith, length-drop at out)) in
+    record { few = omega (arith, x); room = omega (arith, x, y); across = a; down = d }
+
+pub written_part : {c : Config} {q : Rect} (rows : List Row) (n : ℕ) {part : List Span} {r : Result (Unit {0}) Refusal}
+    → PassPlaced c q (rows_of rows n) part r → r ≡ Ok tt → n ≤ length rows → (out : List Span) (at k : ℕ) → at ≤ length out
+    → spans_of (put_mid at k out part) (at + n) ≡ spans_of out at ++ rows_records c q (rows_of rows n)
+unfolding rows_records
+written_part {c} {q} rows n {part} p e h out at k a =
+    let x : length part ≡ n = ap length (p.written e) ∙ length-map (rows_of rows n) (record_at c q (rows_of rows n)) ∙ length-take-le n rows h in
+    take-put_mid at k out part (at + n) (omega (arith, x)) a ∙ ap (λ (l : List Span). spans_of out at ++ l) (p.written e)

@@ -16,7 +16,7 @@ use Rattle.rows.specs.Rows.{blank_row, row_at, link_at, mark_at, LinkPut, MarkPu
 use Rattle.rows.proofs.Laws.{link_put, link_stays, marks_stay, mark_put, mark_stays, links_stay}
 use Rattle.sums.specs.declared.Sums.{Sums}
 use Rattle.sums.specs.Sums.{advanced, sums, none_yet, Addable, GrownTo, SumsOf}
-use Rattle.sums.specs.Chain.{first_in, until_last, RowsAsked, Linked, Chained, ChainedTo, Walk}
+use Rattle.sums.specs.Chain.{first_in, until_last, RowsAsked, Linked, Chained, Walk}
 use Rattle.sums.proofs.Groups.{sums_last, other_line}
 
 -- ---- the first of a line
@@ -125,9 +125,6 @@ module _ {rows : List Row} {out : List Span} {heads : List ℕ} {k : ℕ} (z : L
         linked = record { size = length-set heads b (suc k) ∙ z.linked.size; firsts = firsts_on; nexts = nexts_on };
         blank = blank_on;
       })
-
-pub link_end : {rows : List Row} {out : List Span} {heads : List ℕ} {k : ℕ} → Linking rows out heads k → k ≡ length rows → ChainedTo rows heads out
-link_end z e = record { chained = record { asked = z.asked; linked = rw e at z.linked }; blank = λ m p. z.blank m (omega arith) }
 
 -- ---- a walk
 

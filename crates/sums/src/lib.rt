@@ -166,7 +166,9 @@ fn total(places: &[u64]) -> u64
 
 // What stands before number k: on from the sum up to p, or from the first place.
 pub fn reach(table: &[u64; 257], p: usize, sum: u64, k: usize) -> u64
-    requires { (k < 256) × (sum ≡ upto table.now p) × (upto table.now k ≤ 17592186044416) }
+    requires within { k < 256 }
+    requires reached { sum ≡ upto table.now p }
+    requires small { upto table.now k ≤ 17592186044416 }
     ensures { result ≡ upto table.now k }
 {
     if p <= k {
