@@ -106,6 +106,7 @@ fn line_list(rows: &[Row], just: u8) -> LineList
 }
 
 // The spacing above a line.
+#[tactic(auto, unfolding(layout::specs::Placing::line_gap))]
 fn gap(char_height: u8, above: Option<TextLine>, line: TextLine) -> u32
     ensures is { result ≡ gap_above char_height (line_above above) (line_is line) }
     ensures small { result < 65536 }
