@@ -94,35 +94,30 @@ module _ (a t : ℕ) (xs ys : List ℕ) (s : length xs ≡ 256) (few : a ≤ 256
       ∙ get_or_append_left ys (drop (256 - a) (drop a xs)) 0 (k - a) (omega arith)
       ∙ ap (λ (y : List ℕ). get_or y (k - a) 0) e ∙ get_or-replicate (256 - a) (k - a) t 0 (omega arith)
 
-pub heights_made : {ch : ℕ} {rows : List Row} {just : ℕ} {l : LineList} (g : LinesOf rows just l) (full : length l.lines ≡ 256)
-    {feet : List ℕ} {t : ℕ} {p : Optional Line} {i : ℕ} → Summing ch (take l.count l.lines) feet t p i
-    → i ≤ length (take l.count l.lines) → length (take l.count l.lines) ≤ i
-    → {ys : List ℕ} → ys ≡ replicate (length (take (256 - l.count) (drop l.count feet))) t
-    → PageHeights ch rows just (record { just = just; feet = put_mid l.count (256 - l.count) feet ys; total = t; fault = l.fault })
+-- us are the lines of l, and n their number
+pub heights_made : {ch : ℕ} {rows : List Row} {just : ℕ} {l : LineList} (g : LinesOf rows just l) {us : List TextLine} (q : us ≡ l.lines.items)
+    {n : ℕ} → n ≡ length l.lines.items → n ≤ 256 → {feet : List ℕ} {t : ℕ} {p : Optional Line} {i : ℕ} → Summing ch us feet t p i → i ≤ length us
+    → length us ≤ i → {ys : List ℕ} → ys ≡ replicate (length (take (256 - n) (drop n feet))) t
+    → PageHeights ch rows just (record { just = just; feet = put_mid n (256 - n) feet ys; total = t; fault = l.fault })
 unfolding lines_in
-heights_made {ch} {rows} {just} {l} g full {feet} {t} {p} {i} z h k {ys} e =
-    let few : l.count ≤ 256 = g.few in
-    let many : length (take l.count l.lines) ≡ l.count = length-take-le l.count l.lines (omega arith) in
-    let n : length (take l.count l.lines) ≡ i = omega arith in
-    let left : length (take (256 - l.count) (drop l.count feet)) ≡ 256 - l.count =
-    length-take-le (256 - l.count) (drop l.count feet) (omega (arith, length-drop l.count feet, z.size)) in
+heights_made {ch} {rows} {just} {l} g {us} q {n} en few {feet} {t} {p} {i} z h k {ys} e =
+    let many : length us ≡ n = ap length q ∙ sym en in
+    let done : length us ≡ i = omega arith in
+    let left : length (take (256 - n) (drop n feet)) ≡ 256 - n = length-take-le (256 - n) (drop n feet) (omega (arith, length-drop n feet, z.size)) in
     record {
       page = refl;
-      feet = λ line q. look many n (e ∙ ap (λ (m : ℕ). replicate m t) left) line q (ltb line l.count) refl;
-      high = all_high z n ∙ ap (total ch none) g.lines;
-      small = omega (arith, z.small, n, many, few);
+      feet = λ line r. look many done (e ∙ ap (λ (m : ℕ). replicate m t) left) (ap (map line_is) q ∙ g.lines) line r (ltb line n) refl;
+      high = all_high z done ∙ ap (total ch none) (ap (map line_is) q ∙ g.lines);
+      small = omega (arith, z.small, done, many, few);
       font = g.font;
     }
   where
-    look : length (take l.count l.lines) ≡ l.count → length (take l.count l.lines) ≡ i → ys ≡ replicate (256 - l.count) t
-        → (line : ℕ) → line < 256 → (b : Bool) → ltb line l.count ≡ b
-        → get_or (put_mid l.count (256 - l.count) feet ys) line 0 ≡ above ch line none (lines_from just [] rows)
-    look many n r line q true v =
-        feet_below l.count t feet ys z.size g.few r line (ltb-true line l.count v)
-        ∙ z.done line (omega (arith, ltb-true line l.count v)) ∙ ap (above ch line none) g.lines
-    look many n r line q false v =
-        feet_behind l.count t feet ys z.size g.few r line (ltb-false line l.count v) q
-        ∙ past_high z n line (omega (arith, ltb-false line l.count v)) ∙ ap (above ch line none) g.lines
+    look : length us ≡ n → length us ≡ i → ys ≡ replicate (256 - n) t → map line_is us ≡ lines_from just [] rows → (line : ℕ) → line < 256
+        → (b : Bool) → ltb line n ≡ b → get_or (put_mid n (256 - n) feet ys) line 0 ≡ above ch line none (lines_from just [] rows)
+    look many done r m line s true v =
+        feet_below n t feet ys z.size few r line (ltb-true line n v) ∙ z.done line (omega (arith, ltb-true line n v)) ∙ ap (above ch line none) m
+    look many done r m line s false v =
+        feet_behind n t feet ys z.size few r line (ltb-false line n v) s ∙ past_high z done line (omega (arith, ltb-false line n v)) ∙ ap (above ch line none) m
 
 -- ---- `offset_vert`: what the table says of a line
 

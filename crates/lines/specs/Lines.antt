@@ -1,5 +1,5 @@
 -- Document 01, "The line list holds at most 256 lines": the lines of the rows with a page justification, and what stands above each line's foot.
-use Rattle.std.specs.Prelude.{ℕ, ◌-◌, ◌≤◌, ◌<◌, ◌≡◌, List, [], ◌∷◌, eqb, get_or, take, map, Option, Some, None}
+use Rattle.std.specs.Prelude.{ℕ, ◌-◌, ◌≤◌, ◌<◌, ◌≡◌, List, [], ◌∷◌, eqb, get_or, map, Option, Some, None}
 use Rattle.std.proofs.Math.Option.{Option as Optional, none, some}
 use Rattle.base.specs.Pick.{pick}
 use Rattle.layout.specs.Placing.{Line, add_line, first_fault, or_else, above, total}
@@ -22,7 +22,7 @@ line_above (Some t) = some (line_is t)
 
 -- the lines that a list holds
 unfoldable pub lines_in : LineList → List Line
-lines_in l = map line_is (take l.count l.lines)
+lines_in l = map line_is l.lines.items
 
 -- ---- the rows
 
@@ -45,13 +45,11 @@ font_fault_from j rs = first_fault (row_fault j) rs
 pub record RowAdded (l : LineList) (r : Row) (l' : LineList) : Type 0 where
   pub lines : lines_in l' ≡ add_line r.line (row_line r) (lines_in l)
   pub font : fault_of l'.fault ≡ or_else (fault_of l.fault) (fault_of (font_only r.fault))
-  pub few : l'.count ≤ 256
 
 -- the list holds the lines of the rows with a page justification
 pub record LinesOf (rows : List Row) (just : ℕ) (l : LineList) : Type 0 where
   pub lines : lines_in l ≡ lines_from just [] rows
   pub font : fault_of l.fault ≡ font_fault_from just rows
-  pub few : l.count ≤ 256
 
 -- ---- the feet
 

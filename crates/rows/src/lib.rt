@@ -144,7 +144,7 @@ pub fn put_link(out: &mut [Span], i: usize, link: u16)
     out[i].kind = link;
 }
 
-// Its x holds the mark of its row: its place across, with 1 added; 0 until it is known.
+// Its x holds the mark of its row: its place across, with 1 added; 0 until it is known (the field of a record has no room for an Option).
 pub fn mark_at(out: &[Span], i: usize) -> u16
     requires { i < length out.now }
     ensures { result ≡ mark_at out.now i }
