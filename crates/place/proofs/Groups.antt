@@ -88,9 +88,6 @@ module _ {p : Pass} where
           grown = grown;
         }
 
-    pub marked_now : 0 < mark_at out' j
-    marked_now = own_mark.some
-
 -- ---- `mark_group`: the rows of the group before the last k are marked, and sum is what stands before number s
 
 pub record Marking (p : Pass) (out₀ : List Span) (r : Row) (total : ℕ) (table : List ℕ) (out : List Span) (s sum k : ℕ) : Type 0 where

@@ -8,7 +8,7 @@ use lib.Dec.{eqb}
 use lib.ListN.{length, get_or, set, take, length-set, replicate}
 use lib.Seq.{get_or-set_same, get_or-set_other}
 use borrow.Author.Tests.{eqb-true, eqb-false}
-use Rattle.std.proofs.lemmas.List.{take_more, take_all, get_or-replicate}
+use Rattle.std.proofs.lemmas.List.{take_more, get_or-replicate}
 use Rattle.base.specs.Pick.{pick}
 use Rattle.layout.specs.declared.Span.{Span}
 use Rattle.rows.specs.declared.Row.{Row}
@@ -171,9 +171,6 @@ module _ {rows : List Row} {out : List Span} {heads : List ℕ} (c : Chained row
         ap (λ (m : ℕ). sums q none_yet (until_last rows m)) next_is ∙ skip rows r.line q hq (k - 1) (omega (arith, w.within))
         ∙ last_row rows q (k - 1) (omega (arith, w.within))
         ∙ ap (λ (m : ℕ). advanced q (sums q none_yet (until_last rows m)) (row_at rows (length rows - m))) one_back
-
-pub walk_done : (rows : List Row) (k : ℕ) → k ≤ 0 → until_last rows k ≡ rows
-walk_done rows k h = take_all (length rows - k) rows (omega arith)
 
 -- ---- `offset_horiz`: the sums of the rows before the last k
 
