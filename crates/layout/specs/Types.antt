@@ -1,11 +1,10 @@
 -- What a listing goes over: the items of a message, what the fonts say of a span, and the sign. Rect, RenderState, Entry and Step are declared in
 -- src/lib.rt.
-use Rattle.std.specs.Prelude.{ℕ, List, map, length}
-use Rattle.std.proofs.Math.Option.{Option}
+use Rattle.std.specs.Prelude.{ℕ, List, map, length, Option}
 use Rattle.token.specs.Token.{Slice, slices}
 use Rattle.value.specs.declared.Place.{Place}
 use Rattle.value.specs.declared.OptNum.{OptNum}
-use Rattle.value.specs.declared.OptNum.TheVariants.{Some, None}
+use Rattle.value.specs.declared.OptNum.TheVariants.{Some as SomeNum, None as NoNum}
 use Rattle.records.specs.declared.Config.{Config}
 use Rattle.reading.specs.declared.Said.{Said}
 use Rattle.reading.specs.Reading.{item_of}
@@ -31,8 +30,8 @@ items c msg = map (item_at c) (slices msg)
 
 -- the number of an option, or d where there is none
 abbrev pub unwrap_or : OptNum → ℕ → ℕ
-unwrap_or None d = d
-unwrap_or (Some n) d = n
+unwrap_or NoNum d = d
+unwrap_or (SomeNum n) d = n
 
 -- what the fonts say of a span: number and detail of the first of refusals 10 to 12 that it meets, of 10 and 11 alone, and its measures
 pub record Meter : Type 0 where
