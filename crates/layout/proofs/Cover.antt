@@ -8,6 +8,7 @@ use Rattle.std.specs.Prelude.{Option, Some, None, Result, Ok, Err}
 use mathlib.Core.List.{List, [], ◌∷◌, ◌++◌, map, append_assoc, append-nil}
 use lib.Dec.{leb, ltb, eqb}
 use borrow.Author.Tests.{eqb-true}
+use Rattle.std.proofs.lemmas.Bool.{and_parts}
 use Rattle.base.specs.Pick.{pick}
 use Rattle.value.specs.declared.OptFont.{OptFont}
 use Rattle.value.specs.declared.OptFont.TheVariants.{Some as SomeFont, None as NoFont}
@@ -27,7 +28,7 @@ use Rattle.layout.specs.Demand.{In, here, there, Role, text, hexadecimal, rectan
 use Rattle.layout.specs.declared.Step.{Step}
 use Rattle.layout.specs.declared.Step.TheVariants.{Go, Emit, Cut, Turn}
 use Rattle.layout.specs.Read.{refusal_at, surrogate, above0, with_just_line, with_just_page, with_char_spacing, with_font, font_step, rect_of, unit, fits, rect_fits, justified, go_if, line_step, value_step, item_step, step, scan, Event, pass, close, stop, whole, new_page, start, follow, read, opening, events}
-use Rattle.layout.proofs.PassLaws.{Grid, and_true}
+use Rattle.layout.proofs.PassLaws.{Grid}
 
 -- ---- one item
 
@@ -119,13 +120,13 @@ pick_all P false f g = g refl
 
 fits_grid : (a n all u : ℕ) → fits a n all u ≡ true → a % unit u ≡ 0
 fits_grid a n all u q =
-    let (_, p) = and_true (ltb 0 n) (leb (a + n) all && (eqb (a % unit u) 0 && eqb (n % unit u) 0)) q in
-    let (_, o) = and_true (leb (a + n) all) (eqb (a % unit u) 0 && eqb (n % unit u) 0) p in
-    eqb-true _ _ (and_true (eqb (a % unit u) 0) (eqb (n % unit u) 0) o).0
+    let (_, p) = and_parts (ltb 0 n) (leb (a + n) all && (eqb (a % unit u) 0 && eqb (n % unit u) 0)) q in
+    let (_, o) = and_parts (leb (a + n) all) (eqb (a % unit u) 0 && eqb (n % unit u) 0) p in
+    eqb-true _ _ (and_parts (eqb (a % unit u) 0) (eqb (n % unit u) 0) o).0
 
 rect_grid : (s : Config) (r : Rect) → rect_fits s r ≡ true → Grid s r
 rect_grid s r q =
-    let (a, d) = and_true (fits r.left r.width s.width s.char_width) (fits r.top r.height s.height s.char_height) q in
+    let (a, d) = and_parts (fits r.left r.width s.width s.char_width) (fits r.top r.height s.height s.char_height) q in
     record { across = fits_grid r.left r.width s.width s.char_width a; down = fits_grid r.top r.height s.height s.char_height d }
 
 just_given : (j : OptNum) (d n : ℕ) → justified j d ≡ SomeNum n → unwrap_or j d ≡ n

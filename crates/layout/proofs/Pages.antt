@@ -9,6 +9,7 @@ use mathlib.Core.Option.{Option as Maybe, none, some}
 use Rattle.std.specs.Prelude.{Option, Some, None}
 use mathlib.Core.List.{List, [], ◌∷◌, ◌++◌, map, append_assoc}
 use lib.Dec.{eqb}
+use Rattle.std.proofs.lemmas.List.{map-append}
 use Rattle.base.specs.Pick.{pick}
 use Rattle.token.specs.Token.{Slice, slices}
 use Rattle.records.specs.declared.Config.{Config}
@@ -17,6 +18,7 @@ use Rattle.refusal.specs.declared.Refusal.{Refusal}
 use Rattle.layout.specs.declared.Span.{Span}
 use Rattle.layout.specs.declared.Rect.{Rect}
 use Rattle.layout.specs.declared.Entry.{Entry}
+use Rattle.layout.specs.declared.Fault.{Fault}
 use Rattle.layout.specs.Types.{Item, item_at, items, Board}
 use Rattle.font.specs.Table.{font_numbered}
 use Rattle.font.specs.declared.Measure.{Measure}
@@ -87,10 +89,6 @@ printed_entries_append : (a b : List Entry) → printed_entries (a ++ b) ≡ pri
 printed_entries_append [] b = refl
 printed_entries_append (q ∷ a) b = rw (printed_entries_append a b) (simp append_assoc)
 
-pub map_append : {A B : Type 0} (f : A → B) (a b : List A) → map f (a ++ b) ≡ map f a ++ map f b
-map_append f [] b = refl
-map_append f (x ∷ a) b = rw (map_append f a b)
-
 pass_printed : (s : Board) (r : Rect) (es l : List Entry) → printed_records (map (record_of s r es) l) ≡ printed_entries l
 unfolding record_of
 pass_printed s r es [] = refl
@@ -113,8 +111,8 @@ placed_starts : (s : Board) (evs : List Event) → map (λ q. q.start) (placed s
 unfolding pass_records
 placed_starts s [] = refl
 placed_starts s (pass r es ∷ evs) =
-    map_append (λ q. q.start) (map (record_of s r es) es) (placed s evs)
-    ∙ rw (pass_starts s r es es, placed_starts s evs) (sym (map_append (λ e. e.start) es (entries evs)))
+    map-append (λ q. q.start) (map (record_of s r es) es) (placed s evs)
+    ∙ rw (pass_starts s r es es, placed_starts s evs) (sym (map-append (λ e. e.start) es (entries evs)))
 placed_starts s (close a b ∷ evs) = placed_starts s evs
 placed_starts s (stop x ∷ evs) = placed_starts s evs
 
@@ -204,7 +202,7 @@ measure_none : (m : Measure) → missing m ≡ None → m ≡ Width (width_of m)
 measure_none (Width w) q = refl
 measure_none (Missing c) q = absurd cc
 
-char_none : (msg : List ℕ) (e : Entry) (capitals : Bool) (f : Font) (x : Option (ℕ × ℕ)) → char_fault_after msg e capitals x f ≡ None
+char_none : (msg : List ℕ) (e : Entry) (capitals : Bool) (f : Font) (x : Option Fault) → char_fault_after msg e capitals x f ≡ None
     → measure_in msg e capitals f ≡ Width (width_in msg e capitals (some f))
 char_none msg e capitals f None q = measure_none (measure_in msg e capitals f) q
 char_none msg e capitals f (Some x) q = absurd cc
@@ -221,7 +219,7 @@ measured_in c msg fs e q (some f) p g w h =
       height = h;
     }
 
-fault_none : (s : Board) (r : Rect) (es : List Entry) (e : Entry) (x : Option (ℕ × ℕ)) → fault_at s r es e x ≡ None → x ≡ None
+fault_none : (s : Board) (r : Rect) (es : List Entry) (e : Entry) (x : Option Fault) → fault_at s r es e x ≡ None → x ≡ None
 fault_none s r es e None q = refl
 fault_none s r es e (Some x) q = absurd cc
 

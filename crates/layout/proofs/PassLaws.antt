@@ -9,6 +9,7 @@ use Rattle.std.specs.Prelude.{Option, Some, None}
 use mathlib.Core.List.{List, [], ◌∷◌}
 use lib.Dec.{eqb}
 use borrow.Author.Tests.{eq-eqb, leb-true, eqb-true}
+use Rattle.std.proofs.lemmas.Bool.{and_parts}
 use Rattle.records.specs.declared.Config.{Config}
 use Rattle.layout.specs.declared.Rect.{Rect}
 use Rattle.layout.specs.declared.Entry.{Entry}
@@ -29,10 +30,6 @@ pub unless_none : {A : Type 0} (b : Bool) (a : A) → unless b a ≡ None → b 
 unfolding unless
 unless_none true a e = refl
 unless_none false a e = absurd cc
-
-pub and_true : (a b : Bool) → a && b ≡ true → (a ≡ true) × (b ≡ true)
-and_true true b e = (refl, e)
-and_true false b e = absurd cc
 
 -- ---- a group
 
@@ -68,9 +65,9 @@ pub record Same (a b : Entry) : Type 0 where
 
 same_true : (a b : Entry) → same a b ≡ true → Same a b
 same_true a b q =
-    let (p, r) = and_true (eqb a.state.just_page b.state.just_page)
+    let (p, r) = and_parts (eqb a.state.just_page b.state.just_page)
     (eqb a.state.line b.state.line && eqb a.state.just_line b.state.just_line) q in
-    let (l, j) = and_true (eqb a.state.line b.state.line) (eqb a.state.just_line b.state.just_line) r in
+    let (l, j) = and_parts (eqb a.state.line b.state.line) (eqb a.state.just_line b.state.just_line) r in
     record { just_page = eqb-true _ _ p; line = eqb-true _ _ l; just_line = eqb-true _ _ j }
 
 same_group : (s : Board) (r : Rect) (es : List Entry) (a b : Entry) → Same a b → group s r es a ≡ group s r es b

@@ -5,6 +5,7 @@ use mathlib.Core.Path.{◌≡◌, refl, ap}
 use Rattle.std.specs.Prelude.{Option, Some, None}
 use mathlib.Core.List.{List, [], ◌∷◌, ◌++◌, map}
 use lib.ListN.{length, drop, length-append, length-drop}
+use Rattle.std.proofs.lemmas.List.{length-map}
 use Rattle.admit.specs.Admission.{admission}
 use Rattle.admit.proofs.Laws.{admits}
 use Rattle.refusal.specs.declared.Refusal.{Refusal}
@@ -57,13 +58,9 @@ small_stop : (top : ℕ) (f : Option Refusal) (l : List Page) → Small top l �
 small_stop top None l h = h
 small_stop top (Some r) l h = tt
 
-pub map_length : {A B : Type 0} (f : A → B) (l : List A) → length (map f l) ≡ length l
-map_length f [] = refl
-map_length f (x ∷ l) = rw (map_length f l)
-
 pass_length : (s : Board) (r : Rect) (es : List Entry) → length (pass_records s r es) ≡ length es
 unfolding pass_records
-pass_length s r es = map_length (record_of s r es) es
+pass_length s r es = length-map es (record_of s r es)
 
 walk_small : (top : ℕ) (s : Board) (evs : List Event) (a b : ℕ) (rs : List Span) (n : ℕ) → length rs + length (entries evs) ≤ top
     → Small top (walk s evs a b rs n)

@@ -7,6 +7,7 @@ use Rattle.value.specs.declared.OptNum.{OptNum}
 use Rattle.value.specs.declared.OptNum.TheVariants.{Some as SomeNum, None as NoNum}
 use Rattle.layout.specs.declared.Rect.{Rect}
 use Rattle.layout.specs.declared.Entry.{Entry}
+use Rattle.layout.specs.declared.Fault.{Fault}
 use Rattle.layout.specs.Types.{unwrap_or, Meter, Board}
 use Rattle.refusal.specs.Refusals.{refusal}
 use Rattle.layout.specs.Read.{unit}
@@ -201,9 +202,9 @@ module _ (s : Board) (r : Rect) (es : List Entry) where
   abbrev pub refused_at : Entry → ℕ → ℕ → Refusal
   refused_at e n d = refusal n e.start e.len d
 
-  abbrev pub fault_at : Entry → Option (ℕ × ℕ) → Option Refusal
+  abbrev pub fault_at : Entry → Option Fault → Option Refusal
   fault_at e None = None
-  fault_at e (Some f) = Some (refused_at e f.0 f.1)
+  fault_at e (Some f) = Some (refused_at e f.number f.detail)
 
   -- "Then span by span, x before y, in the order in which `offset_horiz` and `offset_vert` meet 10 to 14": the faults of the group's measures; 13,
   -- "text exceeds the rectangle's width"; the fonts of the page's lines; 13, its height; 14, "the rounded baseline is less than the font height"

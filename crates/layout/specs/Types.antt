@@ -9,6 +9,7 @@ use Rattle.records.specs.declared.Config.{Config}
 use Rattle.reading.specs.declared.Said.{Said}
 use Rattle.reading.specs.Reading.{item_of}
 use Rattle.layout.specs.declared.Entry.{Entry}
+use Rattle.layout.specs.declared.Fault.{Fault}
 
 -- a slice of the message, and what it says: its value, or the number of its refusal (5, 6 or 7)
 pub record Item : Type 0 where
@@ -35,8 +36,8 @@ unwrap_or (SomeNum n) d = n
 
 -- what the fonts say of a span: number and detail of the first of refusals 10 to 12 that it meets, of 10 and 11 alone, and its measures
 pub record Meter : Type 0 where
-  pub fault : Entry → Option (ℕ × ℕ)
-  pub font_fault : Entry → Option (ℕ × ℕ)
+  pub fault : Entry → Option Fault
+  pub font_fault : Entry → Option Fault
   pub width : Entry → ℕ
   pub height : Entry → ℕ
   pub spacing : Entry → ℕ

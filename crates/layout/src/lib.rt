@@ -42,6 +42,13 @@ pub struct Entry {
     pub state: RenderState,
 }
 
+// Number and detail of refusal 10, 11 or 12: what the fonts say against a span.
+#[derive(Clone, Copy)]
+pub struct Fault {
+    pub number: u8,
+    pub detail: u16,
+}
+
 // What the scan of a page makes of an item that does not fail: it goes by, ends the page, or sets its times.
 #[derive(Clone, Copy)]
 pub enum Mark {
