@@ -3,11 +3,11 @@
 
 ghost use Rattle.std.specs.Prelude.{◌≡◌, ◌<◌};
 ghost use Rattle.layout.specs.Types.{unwrap_or};
-ghost use Rattle.layout.specs.Read.{with_span, with_just_line, with_just_page, with_line, with_char_spacing, with_font, with_rect, unit as unit_of, whole as whole_of, new_page, start as start_of};
+ghost use Rattle.layout.specs.Read.{refusal_at, with_span, with_just_line, with_just_page, with_line, with_char_spacing, with_font, with_rect, unit as unit_of, whole as whole_of, new_page, start as start_of};
 
 use records::Config;
 use refusal::Refusal;
-use value::OptNum;
+use value::{OptNum, Place};
 
 // A text rectangle; left and top from 0: [tr]'s x - 1 and y - 1.
 #[derive(Clone, Copy)]
@@ -113,6 +113,18 @@ pub fn unwrap_or(o: OptNum, d: u16) -> u16
     match o {
         OptNum::Some(n) => n,
         OptNum::None => d,
+    }
+}
+
+// A refusal of an item: it carries the item's place.
+pub fn refusal_at(p: Place, number: u8) -> Refusal
+    ensures { result ≡ refusal_at p number }
+{
+    Refusal {
+        number,
+        start: p.start,
+        length: p.len,
+        detail: 0,
     }
 }
 
