@@ -7,7 +7,7 @@ use Rattle.page.proofs.scan.Given as goal
 
 -- the scan from here on, with the times here, is the scan of the page
 abbrev pub invariant-loop-at : goal.invariant-loop-at
-invariant-loop-at l = scan l.c l.on l.off (items_from l.c l.at l.msg) ≡ scan l.fn.c l.fn.on l.fn.off (items_from l.fn.c l.from l.msg)
+invariant-loop-at l = scan l.c l.on l.off (items_from l.c l.at l.msg) ≡ scan l.c l.fn.on l.fn.off (items_from l.c l.from l.msg)
 
 abbrev pub decreases-loop-at : goal.decreases-loop-at
 decreases-loop-at l = length l.msg - l.at
