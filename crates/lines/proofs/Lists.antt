@@ -1,14 +1,13 @@
 -- The list after a row is the one that `add_line` gives, and the fold over the rows.
-use Rattle.std.specs.Prelude.{ℕ, zero, suc, ◌+◌, ◌≤◌, ◌<◌, ◌≡◌, List, [], ◌∷◌, ◌++◌, length, get_or, set, drop, map, Option, None}
+use Rattle.std.specs.Prelude.{ℕ, zero, suc, ◌+◌, ◌≤◌, ◌<◌, ◌≡◌, List, [], ◌∷◌, ◌++◌, length, get_or, set, drop, map, Option, Some, None}
 use Rattle.std.proofs.Common.{refl, ◌∙◌, ap, sym, arith, ne_eqb, eq-eqb}
 use Rattle.std.proofs.lemmas.List.{length-map, map-set, map_push, get_or-map, drop_more, drop_all}
 use Rattle.arrayvec.specs.ArrayVec.{ArrayVec}
-use Rattle.std.proofs.Math.Option.{Option as Optional, none, some}
 use Rattle.std.specs.Option.{option_or}
 use Rattle.layout.specs.Placing.{Line, combine, add_line, or_else}
-use Rattle.rows.specs.declared.Fault.{Fault}
+use Rattle.layout.specs.declared.Fault.{Fault}
 use Rattle.rows.specs.declared.Row.{Row}
-use Rattle.rows.specs.Measured.{fault_of, font_only}
+use Rattle.rows.specs.Measured.{font_only}
 use Rattle.rows.proofs.Laws.{earlier_is}
 use Rattle.lines.specs.declared.LineList.{LineList}
 use Rattle.lines.specs.declared.TextLine.{TextLine}
@@ -28,8 +27,8 @@ add_new (suc k) x (l ∷ ls) h = ap (λ (z : List Line). l ∷ z) (add_new k x l
 
 -- the fault, with that of a row
 met : (l : LineList) (r : Row) (b o : Option Fault) → b ≡ font_only r.fault → o ≡ option_or l.fault b
-    → fault_of o ≡ or_else (fault_of l.fault) (fault_of (font_only r.fault))
-met l r b o f p = ap fault_of (p ∙ ap (option_or l.fault) f) ∙ earlier_is l.fault (font_only r.fault)
+    → o ≡ or_else l.fault (font_only r.fault)
+met l r b o f p = p ∙ ap (option_or l.fault) f ∙ earlier_is l.fault (font_only r.fault)
 
 -- a row was added: own is its line, b its font's fault, o the first fault
 module _ {l : LineList} {r : Row} {own : TextLine} (u : line_is own ≡ row_line r) {b o : Option Fault} (f : b ≡ font_only r.fault) (p : o ≡ option_or l.fault b) where
@@ -58,15 +57,15 @@ module _ {l : LineList} {r : Row} {own : TextLine} (u : line_is own ≡ row_line
 
 -- ---- `line_list`
 
-or_none : (a : Optional (ℕ × ℕ)) → or_else a none ≡ a
+or_none : (a : Option Fault) → or_else a None ≡ a
 unfolding or_else
-or_none none = refl
-or_none (some f) = refl
+or_none None = refl
+or_none (Some f) = refl
 
-or_assoc : (a b c : Optional (ℕ × ℕ)) → or_else (or_else a b) c ≡ or_else a (or_else b c)
+or_assoc : (a b c : Option Fault) → or_else (or_else a b) c ≡ or_else a (or_else b c)
 unfolding or_else
-or_assoc none b c = refl
-or_assoc (some f) b c = refl
+or_assoc None b c = refl
+or_assoc (Some f) b c = refl
 
 module _ (j : ℕ) (x : Row) (rs : List Row) where
   from_skip : (ls : List Line) → (x.just_page ≡ j → ⊥) → lines_from j ls (x ∷ rs) ≡ lines_from j ls rs
@@ -79,14 +78,14 @@ module _ (j : ℕ) (x : Row) (rs : List Row) where
   unfolding font_fault_from or_else
   font_skip h = rw (ne_eqb j x.just_page (λ e. h (sym e)))
 
-  font_on : x.just_page ≡ j → font_fault_from j (x ∷ rs) ≡ or_else (fault_of (font_only x.fault)) (font_fault_from j rs)
+  font_on : x.just_page ≡ j → font_fault_from j (x ∷ rs) ≡ or_else (font_only x.fault) (font_fault_from j rs)
   unfolding font_fault_from
   font_on h = rw (eq-eqb j x.just_page (sym h))
 
 -- the first i rows are gathered in l
 pub record Gathering (rows : List Row) (just : ℕ) (l : LineList) (i : ℕ) : Type 0 where
   pub lines : lines_from just (lines_in l) (drop i rows) ≡ lines_from just [] rows
-  pub font : or_else (fault_of l.fault) (font_fault_from just (drop i rows)) ≡ font_fault_from just rows
+  pub font : or_else l.fault (font_fault_from just (drop i rows)) ≡ font_fault_from just rows
 
 -- no lines and no fault yet
 pub gather_start : {rows : List Row} {just : ℕ} {l : LineList} → l.lines.items ≡ [] → l.fault ≡ None → Gathering rows just l 0
@@ -99,7 +98,7 @@ module _ {rows : List Row} {just : ℕ} {l : LineList} {i : ℕ} (g : Gathering 
   gather_end h =
       record {
         lines = rw (drop_all i rows h) at g.lines;
-        font = sym (or_none (fault_of l.fault)) ∙ rw (drop_all i rows h) at g.font;
+        font = sym (or_none l.fault) ∙ rw (drop_all i rows h) at g.font;
       }
 
   -- the row read is that at i
@@ -110,7 +109,7 @@ module _ {rows : List Row} {just : ℕ} {l : LineList} {i : ℕ} (g : Gathering 
         let next : drop i rows ≡ get_or rows i d ∷ rest = drop_more rows i d h in
         record {
           lines = sym (from_skip just (get_or rows i d) rest (lines_in l) q) ∙ ap (lines_from just (lines_in l)) (sym next) ∙ g.lines;
-          font = ap (or_else (fault_of l.fault)) (sym (font_skip just (get_or rows i d) rest q) ∙ ap (font_fault_from just) (sym next)) ∙ g.font;
+          font = ap (or_else l.fault) (sym (font_skip just (get_or rows i d) rest q) ∙ ap (font_fault_from just) (sym next)) ∙ g.font;
         }
 
     pub gather_on : {l' : LineList} → (get_or rows i d).just_page ≡ just → RowAdded l (get_or rows i d) l' → Gathering rows just l' (i + 1)
@@ -123,7 +122,7 @@ module _ {rows : List Row} {just : ℕ} {l : LineList} {i : ℕ} (g : Gathering 
               ap (λ (ls : List Line). lines_from just ls rest) a.lines ∙ sym (from_on just x rest (lines_in l) q)
               ∙ ap (lines_from just (lines_in l)) (sym next) ∙ g.lines;
           font =
-              ap (λ (o : Optional (ℕ × ℕ)). or_else o (font_fault_from just rest)) a.font
-              ∙ or_assoc (fault_of l.fault) (fault_of (font_only x.fault)) (font_fault_from just rest)
-              ∙ ap (or_else (fault_of l.fault)) (sym (font_on just x rest q) ∙ ap (font_fault_from just) (sym next)) ∙ g.font;
+              ap (λ (o : Option Fault). or_else o (font_fault_from just rest)) a.font
+              ∙ or_assoc l.fault (font_only x.fault) (font_fault_from just rest)
+              ∙ ap (or_else l.fault) (sym (font_on just x rest q) ∙ ap (font_fault_from just) (sym next)) ∙ g.font;
         }

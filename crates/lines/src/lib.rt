@@ -7,7 +7,8 @@ ghost use Rattle.rows.specs.Measured.{font_only};
 ghost use Rattle.lines.specs.Lines.{line_is, line_above, row_line, RowAdded, LinesOf, PageHeights, foot_in, heights_in};
 
 use arrayvec::ArrayVec;
-use rows::{Fault, Row};
+use layout::Fault;
+use rows::Row;
 use value::OptNum;
 
 // A line, and a span as a line of its own.
