@@ -1,5 +1,6 @@
 -- A pass placed group by group: the rows of a group are marked together, each with its place across and 1, in its record until that is written.
 use Rattle.std.specs.Prelude.{ℕ, ◌+◌, ◌-◌, ◌≤◌, ◌<◌, ◌≡◌, List, map, length, take, Result, Ok, Err, None}
+use Rattle.std.specs.Result.{result_err}
 use Rattle.layout.specs.declared.Span.{Span}
 use Rattle.layout.specs.Placing.{first_fault}
 use Rattle.refusal.specs.declared.Refusal.{Refusal}
@@ -11,7 +12,7 @@ use Rattle.sums.specs.Chain.{Chained}
 use Rattle.sums.specs.Table.{TableOf}
 use Rattle.place.specs.declared.Across.{Across}
 use Rattle.place.specs.declared.shared.Pass.{Pass}
-use Rattle.place.specs.Placed.{across_fault, Crossed, refused_by, fault_end, record_at, span_fault_at}
+use Rattle.place.specs.Placed.{across_fault, Crossed, fault_end, record_at, span_fault_at}
 
 -- the sums of row j
 abbrev pub sums_at : Pass → ℕ → Sums
@@ -80,5 +81,5 @@ pub record DownAsked (p : Pass) (out : List Span) (m : ℕ) : Type 0 where
 -- they were placed: a refusal, or their records
 pub record PlacedDown (p : Pass) (m : ℕ) (out : List Span) (r : Result (Unit {0}) Refusal) : Type 0 where
   pub room : length p.rows.now ≡ length out
-  pub fault : refused_by r ≡ first_fault (span_fault_at p.config p.rect p.rows.now) (take m p.rows.now)
+  pub fault : result_err r ≡ first_fault (span_fault_at p.config p.rect p.rows.now) (take m p.rows.now)
   pub written : r ≡ Ok tt → take m out ≡ map (record_at p.config p.rect p.rows.now) (take m p.rows.now)

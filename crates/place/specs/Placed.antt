@@ -2,6 +2,7 @@
 use Rattle.std.specs.Prelude.{ℕ, suc, ◌+◌, ◌-◌, ◌/◌, ◌≤◌, ◌≡◌, Bool, not, ◌&&◌, ◌||◌, List, [], ◌∷◌, map, leb, ltb, eqb, length}
 use Rattle.std.specs.Prelude.{Option, Some, None, Result, Ok, Err}
 use Rattle.std.specs.Option.{option_or}
+use Rattle.std.specs.Result.{result_err}
 use Rattle.base.specs.Pick.{pick}
 use Rattle.refusal.specs.declared.Refusal.{Refusal}
 use Rattle.records.specs.declared.Config.{Config}
@@ -17,11 +18,6 @@ use Rattle.lines.specs.declared.PageLines.{PageLines}
 use Rattle.lines.specs.declared.Heights.{Heights}
 use Rattle.lines.specs.Lines.{lines_from, font_fault_from, PageHeights}
 use Rattle.place.specs.declared.shared.Pass.{Pass}
-
--- the refusal of an answer, if it is one
-abbrev pub refused_by : {A : Type 0} → Result A Refusal → Option Refusal
-refused_by (Ok x) = None
-refused_by (Err f) = Some f
 
 -- ---- 9
 
@@ -155,10 +151,10 @@ LinesMade p page = PageHeights p.config.char_height p.rows.now page.just page
 
 -- they were placed row by row: a refusal, or all records
 pub record RowByRow (p : Pass) (out : List Span) (r : Result (Unit {0}) Refusal) : Type 0 where
-  pub fault : refused_by r ≡ first_fault (span_fault_at p.config p.rect p.rows.now) p.rows.now
+  pub fault : result_err r ≡ first_fault (span_fault_at p.config p.rect p.rows.now) p.rows.now
   pub written : r ≡ Ok tt → out ≡ rows_records p.config p.rect p.rows.now
 
 -- the pass was placed: 9 before them
 pub record PassPlaced (c : Config) (q : Rect) (rows : List Row) (out : List Span) (r : Result (Unit {0}) Refusal) : Type 0 where
-  pub fault : refused_by r ≡ rows_fault c q rows
+  pub fault : result_err r ≡ rows_fault c q rows
   pub written : r ≡ Ok tt → out ≡ rows_records c q rows

@@ -2,10 +2,11 @@
 #![tactic(auto)]
 
 ghost use Rattle.std.specs.Prelude.{◌≡◌, ◌+◌, ◌≤◌, ◌<◌, length};
+ghost use Rattle.std.specs.Result.{result_err};
 ghost use Rattle.layout.specs.Placing.{trunc as trunc_of};
 ghost use Rattle.rows.specs.Rows.{row_at, MarkPut};
 ghost use Rattle.lines.specs.Lines.{PageHeights};
-ghost use Rattle.place.specs.Placed.{goes_back_from, back_rows, stands_at, across_at, across_fault, refusal_of, refused_by, fault_end, record_by};
+ghost use Rattle.place.specs.Placed.{goes_back_from, back_rows, stands_at, across_at, across_fault, refusal_of, fault_end, record_by};
 ghost use Rattle.place.specs.Placed.{SpanAsked, SpanPlaced, LinesMade, Placeable, RowByRow, PassPlaced};
 ghost use Rattle.place.specs.Groups.{MarkAsked, Ready, CrossedTo, GroupAsked, OthersAsked, GroupPlaced, PlacedAcross, DownAsked, PlacedDown};
 
@@ -43,7 +44,7 @@ fn refused(r: &Row, number: u8, detail: u16) -> Refusal
 
 // Refusal 9, of the first row whose justification goes back.
 fn check_justification(rows: &[Row]) -> Result<(), Refusal>
-    ensures { refused_by result ≡ back_rows 0 0 0 rows.now }
+    ensures { result_err result ≡ back_rows 0 0 0 rows.now }
 {
     let mut before = &rows::BLANK_ROW;
     for e in rows {
