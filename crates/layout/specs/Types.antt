@@ -1,5 +1,5 @@
--- What a listing goes over: the items of a message, what the fonts say of a span, and the sign. Rect, RenderState, Entry and Step are declared in
--- src/lib.rt.
+-- What a listing goes over: the items of a message, what the fonts say of a span, and the sign. Rect, RenderState, Entry, Fault, Scan and Step are
+-- declared in src/lib.rt.
 use Rattle.std.specs.Prelude.{ℕ, List, map, length, Option}
 use Rattle.token.specs.Token.{Slice, slices}
 use Rattle.value.specs.declared.Place.{Place}
@@ -34,7 +34,7 @@ abbrev pub unwrap_or : OptNum → ℕ → ℕ
 unwrap_or NoNum d = d
 unwrap_or (SomeNum n) d = n
 
--- what the fonts say of a span: number and detail of the first of refusals 10 to 12 that it meets, of 10 and 11 alone, and its measures
+-- what the fonts say of a span: the first of refusals 10 to 12 that it meets, of 10 and 11 alone, and its measures
 pub record Meter : Type 0 where
   pub fault : Entry → Option Fault
   pub font_fault : Entry → Option Fault
