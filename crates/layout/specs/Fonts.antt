@@ -1,5 +1,5 @@
 -- Document 01, "Font measure", and refusals 10 to 12: what the fonts of a sign file say of a span.
-use Rattle.std.specs.Prelude.{ℕ, List, [], ◌∷◌, Bool, eqb, take, drop, Option, Some, None}
+use Rattle.std.specs.Prelude.{ℕ, List, [], ◌∷◌, Bool, eqb, take, drop, Option, Some, None, unwrap_or, Ok, Err}
 use Rattle.std.proofs.Math.Option.{Option as Maybe, none, some}
 use Rattle.base.specs.Pick.{pick}
 use Rattle.records.specs.declared.Config.{Config}
@@ -10,20 +10,18 @@ use Rattle.font.specs.declared.Measure.{Measure}
 use Rattle.font.specs.declared.Measure.TheVariants.{Width, Missing}
 use Rattle.font.specs.Measure.{text_width}
 use Rattle.utf8.specs.Utf8.{codes}
-use Rattle.value.specs.declared.OptNum.{OptNum}
-use Rattle.value.specs.declared.OptNum.TheVariants.{Some as SomeNum, None as NoNum}
 use Rattle.layout.specs.declared.Entry.{Entry}
 use Rattle.layout.specs.declared.Fault.{Fault}
-use Rattle.layout.specs.Types.{unwrap_or, Meter, Board}
+use Rattle.layout.specs.Types.{Meter, Board}
 
 -- a number, with its detail
 abbrev pub fault : ℕ → ℕ → Fault
 fault n d = record { number = n; detail = d }
 
 -- 11: "Font version id differs", where the state has one
-abbrev pub version_fault : OptNum → Font → Option Fault
-version_fault NoNum f = None
-version_fault (SomeNum v) f = pick (eqb v f.version) None (Some (fault 11 0))
+abbrev pub version_fault : Option ℕ → Font → Option Fault
+version_fault None f = None
+version_fault (Some v) f = pick (eqb v f.version) None (Some (fault 11 0))
 
 -- the code points that a span prints: of kind 0 those of its text, of kind 1 its code, of kind 2 none
 abbrev pub chars_of : List ℕ → Entry → List ℕ
