@@ -7,23 +7,22 @@ ghost use Rattle.page.specs.State.{new_page, done_after, next_state};
 ghost use Rattle.page.specs.Scan.{look_by, look_at, items_from};
 
 use layout::{Mark, Scan};
-use reading::Said;
 use records::Config;
 use std::ops::ControlFlow;
-use value::{Place, Value};
+use value::{Place, SyntaxError, Value};
 
 // A tag needs its name's bit in the sign's tags.
-fn tagged(tags: u32, v: Value, m: Mark) -> Result<Mark, u8>
+fn tagged(tags: u32, v: Value, m: Mark) -> Result<Mark, SyntaxError>
     ensures { result ≡ tagged_of tags v m }
 {
     if value::has_tag(tags, v.tag()) {
         Ok(m)
     } else {
-        Err(5)
+        Err(SyntaxError::UnsupportedTag)
     }
 }
 
-fn mark_of(tags: u32, v: Value) -> Result<Mark, u8>
+fn mark_of(tags: u32, v: Value) -> Result<Mark, SyntaxError>
     ensures { result ≡ mark_of tags v }
 {
     match v {
@@ -34,13 +33,10 @@ fn mark_of(tags: u32, v: Value) -> Result<Mark, u8>
     }
 }
 
-fn mark_item(tags: u32, item: Said) -> Result<Mark, u8>
+fn mark_item(tags: u32, item: Result<Value, SyntaxError>) -> Result<Mark, SyntaxError>
     ensures { result ≡ mark_item tags item }
 {
-    match item {
-        Said::Is(v) => mark_of(tags, v),
-        Said::Fails(n) => Err(n),
-    }
+    mark_of(tags, item?)
 }
 
 // The times after an item at a place, or the scan's end.
@@ -49,7 +45,7 @@ fn look_by(
     on: u16,
     off: u16,
     p: Place,
-    m: Result<Mark, u8>,
+    m: Result<Mark, SyntaxError>,
 ) -> ControlFlow<Scan, (u16, u16)>
     ensures { result ≡ look_by c on off p m }
 {
@@ -61,13 +57,13 @@ fn look_by(
             fault: None,
         }),
         Ok(Mark::Timed(a, b)) => ControlFlow::Continue((
-            layout::unwrap_or(a, u16::from(c.on_time)),
-            layout::unwrap_or(b, u16::from(c.off_time)),
+            a.unwrap_or(u16::from(c.on_time)),
+            b.unwrap_or(u16::from(c.off_time)),
         )),
-        Err(number) => ControlFlow::Break(Scan {
+        Err(e) => ControlFlow::Break(Scan {
             on,
             off,
-            fault: Some(layout::refusal_at(p, number)),
+            fault: Some(layout::refusal_at(p, e.number())),
         }),
     }
 }
