@@ -7,7 +7,7 @@ use Rattle.std.specs.Prelude.{None, Result, Ok, Err, unwrap_or}
 use Rattle.std.specs.declared.ops.ControlFlow.{ControlFlow}
 use Rattle.std.specs.declared.ops.ControlFlow.TheVariants.{Continue, Break}
 use Rattle.token.specs.Token.{slice_len}
-use Rattle.token.proofs.Laws.{cuts_next, cuts_end}
+use Rattle.token.proofs.Laws.{cuts_next, cuts_end, next_le, next_from, next_less}
 use Rattle.value.specs.declared.SyntaxError.{SyntaxError}
 use Rattle.reading.specs.Reading.{place, item_of}
 use Rattle.records.specs.declared.Config.{Config}
@@ -55,3 +55,5 @@ module _ (c : Config) (a b at : ℕ) (l : List ℕ) (h : at < length l) (r : ℕ
 pub scan_end : (c : Config) (a b at : ℕ) (l : List ℕ) → length l ≤ at → record { on = a; off = b; fault = None } ≡ scan c a b (items_from c at l)
 unfolding items_from
 scan_end c a b at l h = rw (cuts_end at l h)
+
+pub ruleset scan_ways = (scan_on, scan_end, next_le, next_from, next_less)

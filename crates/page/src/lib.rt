@@ -82,6 +82,7 @@ fn look_at(s: &[u8], at: usize, c: Config, on: u16, off: u16) -> ControlFlow<Sca
 }
 
 // The scan of a page from a place of the message on, up to and including [np].
+#[tactic(auto, using(crate::proofs::Laws::scan_ways))]
 pub fn scan(msg: &[u8], from: usize, c: Config, mut on: u16, mut off: u16) -> Scan
     requires { length msg.now ≤ 2048 }
     ensures { result ≡ scan_of c on off (items_from c from msg.now) }
