@@ -17,7 +17,7 @@ pub struct Rect {
     pub height: u16,
 }
 
-// What is in force where a span is read.
+// What is in force where a span is read. A justification is a number, as tags and sign files have it and the definitions order and test it.
 #[derive(Clone, Copy)]
 pub struct RenderState {
     pub rect: Rect,
@@ -31,7 +31,7 @@ pub struct RenderState {
     pub span: u8,
 }
 
-// A span before it is placed: its record's kind, start, length and code, and the state it was read in.
+// A span before it is placed: its record's kind, start, length and code, and the state it was read in. The kind is the record's number, which C reads.
 #[derive(Clone, Copy)]
 pub struct Entry {
     pub kind: u16,
@@ -41,7 +41,7 @@ pub struct Entry {
     pub state: RenderState,
 }
 
-// Number and detail of refusal 10, 11 or 12: what the fonts say against a span.
+// Number and detail of refusal 10, 11 or 12, as the refusal has them: what the fonts say against a span.
 #[derive(Clone, Copy)]
 pub struct Fault {
     pub number: u8,
@@ -97,6 +97,7 @@ pub struct Span {
 }
 
 // On or off with its duration in tenths of a second, on also with its count of records; the end with the count of answers; or a refusal.
+// No Result: the document and C have a refusal as one of four answers, and the definitions count it among them.
 #[derive(Clone, Copy)]
 pub enum Answer {
     On(u16, u16),

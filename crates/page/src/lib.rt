@@ -68,7 +68,7 @@ fn look_by(
     }
 }
 
-// What the slice s, which starts at a place, makes of the times.
+// What the slice s, which starts at a place, makes of the times. The casts are proved; try_from would add an error that no call gives.
 fn look_at(s: &[u8], at: usize, c: Config, on: u16, off: u16) -> ControlFlow<Scan, (u16, u16)>
     requires { at + length s.now ≤ 2048 }
     ensures { result ≡ look_at c on off at s.now }
@@ -88,6 +88,7 @@ pub fn scan(msg: &[u8], from: usize, c: Config, mut on: u16, mut off: u16) -> Sc
     ensures { result ≡ scan_of c on off (items_from c from msg.now) }
 {
     let mut at = from;
+    // A step is a slice, not a byte: where it ends its bytes say.
     while at < msg.len() {
         let end = token::slice_end(msg, at);
         match look_at(&msg[at..end], at, c, on, off) {

@@ -1,8 +1,8 @@
 // Reading a pass: what each value of a message does to the render state, as `render_text_rectangle` has it.
 #![tactic(auto)]
 
-ghost use Rattle.std.specs.Prelude.{◌≡◌};
-ghost use Rattle.layout.specs.Read.{entry_of, with_just_line, with_just_page, extent as extent_of, fits as fits_of, rect_of, rect_fits, justified as justified_of, go_if, font_step, span_step, hex_step, new_line_step, spacing_step, rect_step, value_step};
+ghost use Rattle.std.specs.Prelude.{◌≡◌, ok_or};
+ghost use Rattle.layout.specs.Read.{entry_of, extent as extent_of, fits as fits_of, rect_of, rect_fits, refusal_at, justified, font_step, span_step, hex_step, new_line_step, spacing_step, rect_step, value_step};
 
 use layout::{Entry, Rect, RenderState, Step, refusal_at};
 use records::Config;
@@ -15,17 +15,6 @@ fn font_step(c: Config, st: RenderState, f: Option<(u8, Option<u16>)>) -> Render
 {
     let (font, version) = f.unwrap_or((c.font, None));
     st.with_font(font, version)
-}
-
-// A justification of the tag, or the sign's where it has none: 2 to 4 are taken.
-fn justified(j: Option<u16>, d: u8) -> Option<u8>
-    ensures { result ≡ justified_of j d }
-{
-    match j {
-        Some(n) if (2..=4).contains(&n) => Some(n as u8),
-        Some(_) => None,
-        None => Some(d),
-    }
 }
 
 // A size of 0 reaches to the edge.
@@ -162,20 +151,15 @@ impl Here {
         }
     }
 
-    // [jl]
-    fn line_just(self, j: Option<u16>) -> Result<Step, Refusal>
-        ensures { result ≡ go_if self.p (justified_of j self.c.line_just) (with_just_line self.st) self.blank }
+    // The justification of a [jl] or [jp], or the sign's where it has none: 2 to 4 are taken.
+    fn just(self, j: Option<u16>, d: u8) -> Result<u8, Refusal>
+        ensures { result ≡ ok_or (justified j d) (refusal_at self.p 6) }
     {
-        let n = justified(j, self.c.line_just).ok_or(refusal_at(self.p, 6))?;
-        Ok(Step::Go(self.st.with_just_line(n), self.blank))
-    }
-
-    // [jp]
-    fn page_just(self, j: Option<u16>) -> Result<Step, Refusal>
-        ensures { result ≡ go_if self.p (justified_of j self.c.page_just) (with_just_page self.st) self.blank }
-    {
-        let n = justified(j, self.c.page_just).ok_or(refusal_at(self.p, 6))?;
-        Ok(Step::Go(self.st.with_just_page(n), self.blank))
+        match j {
+            Some(n) if (2..=4).contains(&n) => Ok(n as u8),
+            Some(_) => Err(refusal_at(self.p, 6)),
+            None => Ok(d),
+        }
     }
 
     fn step(self, v: Value) -> Result<Step, Refusal>
@@ -184,8 +168,14 @@ impl Here {
         match v {
             Value::Font(f) => Ok(Step::Go(font_step(self.c, self.st, f), self.blank)),
             Value::HexadecimalCharacter(code) => self.hex(code),
-            Value::JustificationLine(j) => self.line_just(j),
-            Value::JustificationPage(j) => self.page_just(j),
+            Value::JustificationLine(j) => {
+                let n = self.just(j, self.c.line_just)?;
+                Ok(Step::Go(self.st.with_just_line(n), self.blank))
+            }
+            Value::JustificationPage(j) => {
+                let n = self.just(j, self.c.page_just)?;
+                Ok(Step::Go(self.st.with_just_page(n), self.blank))
+            }
             Value::NewLine(spacing) => self.new_line(spacing),
             Value::NewPage => Ok(Step::Turn),
             Value::SpacingCharacter(n) => self.spacing(n),
