@@ -152,7 +152,8 @@ module _ (s : Config) (st : RenderState) (blank : Bool) (it : Item) where
   line_just_within j None = refused 6 (omega arith)
   line_just_within j (Some n) = plain (JustificationLine j) (with_just_line st n) refl refl refl
 
-  page_just_within : (j o : Option ℕ) → justified j s.page_just ≡ o → ValueWithin s st it (JustificationPage j) (go_if (place_of it) o (with_just_page st) blank)
+  page_just_within : (j o : Option ℕ) → justified j s.page_just ≡ o
+      → ValueWithin s st it (JustificationPage j) (go_if (place_of it) o (with_just_page st) blank)
   page_just_within j None e = refused 6 (omega arith)
   page_just_within j (Some n) e = (record { reads = tt; prints = refl; rect = refl; just = just_given j s.page_just n e }, refl)
 
@@ -248,7 +249,8 @@ module _ (s : Config) (it : Item) (its : List Item) (k : ℕ → ℕ → RenderS
   turn_as a b st acc None f q = rw q (turns f.0 f.1 (hyp _ _ (new_page s st) true []))
   turn_as a b st acc (Some r) f q = rw q (fails f.0 f.1 a b q)
 
-  follow_as : (a b : ℕ) (st : RenderState) (acc : List Entry) (t : Result Step Refusal) → StepWithin s st it t → ReadAs s (it ∷ its) st acc (follow s a b st acc its k t)
+  follow_as : (a b : ℕ) (st : RenderState) (acc : List Entry) (t : Result Step Refusal) → StepWithin s st it t
+      → ReadAs s (it ∷ its) st acc (follow s a b st acc its k t)
   follow_as a b st acc (Err r) f = refuses f
   follow_as a b st acc (Ok (Go st' bl)) f = goes f.0 f.1 (hyp a b st' bl acc)
   follow_as a b st acc (Ok (Emit e st' bl)) f = emits f.0 f.1 f.2 (hyp a b st' bl (acc ++ (e ∷ [])))

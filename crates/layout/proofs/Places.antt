@@ -122,7 +122,8 @@ module _ (top : ℕ) where
   back_fault_law : (p : Option Entry) (es : List Entry) → Spans es → Holds Inside (back_fault p es)
   back_fault_law p [] h = fine
   back_fault_law None (e ∷ es) h = back_fault_law (Some e) es h.1
-  back_fault_law (Some p) (e ∷ es) h = or_fault (unless_fault (not (goes_back p e)) _ (record { late = omega arith; place = h.0 })) (back_fault_law (Some e) es h.1)
+  back_fault_law (Some p) (e ∷ es) h =
+      or_fault (unless_fault (not (goes_back p e)) _ (record { late = omega arith; place = h.0 })) (back_fault_law (Some e) es h.1)
 
   module _ (s : Board) (b : LateFaults s) (r : Rect) (all : List Entry) where
     at_fault : (e : Entry) (x : Option Fault) → e.start + e.len ≤ top → Late x → Holds Inside (fault_at s r all e x)

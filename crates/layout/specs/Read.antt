@@ -329,7 +329,8 @@ start s =
     }
 
 -- "A pass ends at [tr], [np] or the end"; "Each pass starts with a blank line". acc: the spans of the pass so far; next reads the rest
-abbrev pub follow : Config → ℕ → ℕ → RenderState → List Entry → List Item → (ℕ → ℕ → RenderState → Bool → List Entry → List Event) → Result Step Refusal → List Event
+abbrev pub follow : Config → ℕ → ℕ → RenderState → List Entry → List Item → (ℕ → ℕ → RenderState → Bool → List Entry → List Event)
+    → Result Step Refusal → List Event
 follow s a b st acc its next (Err r) = stop r ∷ []
 follow s a b st acc its next (Ok (Go st' blank)) = next a b st' blank acc
 follow s a b st acc its next (Ok (Emit e st' blank)) = next a b st' blank (acc ++ (e ∷ []))
