@@ -4,7 +4,7 @@
 ghost use Rattle.std.specs.Prelude.{◌≡◌};
 ghost use Rattle.records.specs.Record.{head_at};
 
-use records::Head;
+use records::Record;
 
 #[derive(Clone, Copy)]
 pub struct SignReader<'a> {
@@ -12,16 +12,18 @@ pub struct SignReader<'a> {
     pub at: usize,
 }
 
-// The record at the reader's position.
-fn next<'a>(r: SignReader<'a>) -> Head
-    ensures { result ≡ head_at r.entry.file.now r.entry.at }
-{
-    records::record_at(r.file, r.at)
+impl SignReader<'_> {
+    // The record at the reader's position.
+    fn next(&self) -> Option<Record>
+        ensures { result ≡ head_at self.now.file.now self.now.at }
+    {
+        records::record_at(self.file, self.at)
+    }
 }
 
 // The record at an offset, by a reader there.
-pub fn record_at(file: &[u8], at: usize) -> Head
+pub fn record_at(file: &[u8], at: usize) -> Option<Record>
     ensures { result ≡ head_at file.now at }
 {
-    next(SignReader { file, at })
+    SignReader { file, at }.next()
 }
