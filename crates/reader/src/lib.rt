@@ -1,7 +1,7 @@
 // A reader of the sign file: the lent bytes and a position. The work is done by `records::record_at`, on a slice and a number.
 #![tactic(auto)]
 
-ghost use Rattle.std.specs.Prelude.{◌≡◌};
+ghost use Rattle.std.specs.Prelude.{◌≡◌, ◌≤◌, length, IfSome};
 ghost use Rattle.records.specs.Record.{head_at};
 
 use records::Record;
@@ -15,7 +15,8 @@ pub struct SignReader<'a> {
 impl SignReader<'_> {
     // The record at the reader's position.
     fn next(&self) -> Option<Record>
-        ensures { result ≡ head_at self.now.file.now self.now.at }
+        ensures value { result ≡ head_at self.now.file.now self.now.at }
+        ensures inside { IfSome result (λ r. (r.start ≤ r.end) × (r.end ≤ length self.now.file.now)) }
     {
         records::record_at(self.file, self.at)
     }
@@ -23,7 +24,8 @@ impl SignReader<'_> {
 
 // The record at an offset, by a reader there.
 pub fn record_at(file: &[u8], at: usize) -> Option<Record>
-    ensures { result ≡ head_at file.now at }
+    ensures value { result ≡ head_at file.now at }
+    ensures inside { IfSome result (λ r. (r.start ≤ r.end) × (r.end ≤ length file.now)) }
 {
     SignReader { file, at }.next()
 }

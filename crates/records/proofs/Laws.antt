@@ -70,7 +70,8 @@ pub little_bytes : (a b at place : ℕ) (l : List ℕ) → length l < 2 ^ 64 →
 unfolding little_at
 little_bytes a b at place l h e p q = omega (arith, stopped 1 1 at place l h e)
 
-pub little_words : (a b at place : ℕ) (l : List ℕ) → length l < 2 ^ 64 → place ≡ min (at + 2) 18446744073709551615 → a ≡ little_at 2 at l → b ≡ little_at 2 place l
+pub little_words : (a b at place : ℕ) (l : List ℕ) → length l < 2 ^ 64 → place ≡ min (at + 2) 18446744073709551615 → a ≡ little_at 2 at l
+    → b ≡ little_at 2 place l
     → a + 65536 * b ≡ little_at 4 at l
 little_words a b at place l h e p q = rw (p, q, stopped 2 2 at place l h e) (little_join 2 2 at l)
 
@@ -97,7 +98,8 @@ bits_known (suc n) k tags j e p q = go (leb (bit k tags) (bit k mask)) (eqb k j)
 bits_made : (n k tags : ℕ) → ((j : ℕ) → k ≤ j → j < k + n → bit j tags ≤ bit j mask) → bits_ok n k tags ≡ true
 unfolding bits_ok
 bits_made zero k tags h = refl
-bits_made (suc n) k tags h = rw (le-leb (bit k tags) (bit k mask) (h k (omega arith) (omega arith))) (bits_made n (k + 1) tags (λ j p q. h j (omega arith) (omega arith)))
+bits_made (suc n) k tags h =
+    rw (le-leb (bit k tags) (bit k mask) (h k (omega arith) (omega arith))) (bits_made n (k + 1) tags (λ j p q. h j (omega arith) (omega arith)))
 
 -- the bits outside the mask
 abbrev outside : ℕ → ℕ

@@ -1,7 +1,7 @@
 // A sign file's records, and the first of them: the configuration.
 #![tactic(auto)]
 
-ghost use Rattle.std.specs.Prelude.{◌≡◌, length};
+ghost use Rattle.std.specs.Prelude.{◌≡◌, ◌≤◌, length, IfSome};
 ghost use Rattle.records.specs.Record.{little_at, head_at};
 ghost use Rattle.records.specs.Config.{config_of, size_ok, just_ok, tags_ok, config_ok, first_of};
 
@@ -53,7 +53,8 @@ fn le32(s: &[u8], at: usize) -> u32
 // The record at an offset, if all of it is there.
 #[tactic(auto, using(crate::proofs::Laws::head_ways))]
 pub fn record_at(file: &[u8], at: usize) -> Option<Record>
-    ensures { result ≡ head_at file.now at }
+    ensures value { result ≡ head_at file.now at }
+    ensures inside { IfSome result (λ r. (r.start ≤ r.end) × (r.end ≤ length file.now)) }
 {
     let start = at.saturating_add(4);
     if file.len() < start {
