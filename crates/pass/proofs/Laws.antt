@@ -1,7 +1,10 @@
 -- The ways on and out of a pass.
+use Rattle.std.specs.Prelude.{Option, Some, None, IfSome, Result, Ok, Err, not}
+use Rattle.std.specs.Option.{option_eq}
+use Rattle.std.proofs.lemmas.Bool.{eqb-true, not-false}
 use Prim.Native.Nat.{ℕ, ◌+◌, ◌-◌, ◌%◌, ◌≤◌, ◌<◌}
 use mathlib.Core.Path.{◌≡◌, refl, sym, ◌∙◌, ap, subst}
-use mathlib.Core.Bool.{Bool, true, ◌&&◌}
+use mathlib.Core.Bool.{Bool, true, false, ◌&&◌}
 use mathlib.Core.List.{List, [], ◌∷◌, ◌++◌, map, append_assoc, append-nil}
 use native.Mathlib.Omega.{arith}
 use lib.Dec.{leb, ltb, eqb}
@@ -45,11 +48,10 @@ use Rattle.meter.specs.declared.RowLooked.{RowLooked}
 use Rattle.meter.specs.Gauges.{AcceptedTable, WidthsOf, CodesFit, meter_in, part_codes, EntryIn, looked_by, RowTaken}
 use Rattle.pass.specs.declared.How.{How}
 use Rattle.pass.specs.declared.How.TheVariants.{Cut as ByCut, Turn as ByTurn, End as ByEnd}
-use Rattle.pass.specs.declared.Kept.{Kept}
+use Rattle.pass.specs.declared.Held.{Held}
 use Rattle.pass.specs.declared.PassDone.{PassDone}
-use Rattle.pass.specs.declared.PassEnd.{PassEnd}
-use Rattle.pass.specs.declared.PassEnd.TheVariants.{Refused as RefusedBy, Ended as EndedBy}
-use Rattle.pass.specs.Pass.{Ending, ended, entries_by, entries_of, ending_by, ending_of, step_at, done_by, told, Inside, tag_bytes, Sliced, Steps, Storable, Stored, PassAsked, SpansRead, PassRead}
+use Rattle.pass.specs.declared.Reached.{Reached}
+use Rattle.pass.specs.Pass.{Ending, ended, entries_by, entries_of, ending_by, ending_of, step_at, start_at, Inside, tag_bytes, Sliced, Holds, Steps, Storable, Stored, PassAsked, SpansRead, PassRead}
 use Rattle.pass.proofs.Items.{spoken_narrow}
 
 -- ---- a rectangle inside the sign
@@ -64,9 +66,6 @@ fits_inside c r e =
     let (a, d) = and_true (fits r.left r.width c.width c.char_width) (fits r.top r.height c.height c.char_height) e in
     record { across = fits_most r.left r.width c.width c.char_width a; down = fits_most r.top r.height c.height c.char_height d }
 
-same_inside : (c : Config) (q r : Rect) → q ≡ r → Inside c r → Inside c q
-same_inside c q r e h = rw e h
-
 -- ---- the loop
 
 items_end : (c : Config) (at : ℕ) (l : List ℕ) → length l ≤ at → items_from c at l ≡ []
@@ -75,27 +74,33 @@ items_end c at l h = ap (map (item_at c)) (cuts_end at l h)
 
 -- where the loop stands: first is the state it began with, rows₀ the rows
 pub record Stands (file : List ℕ) (table : SignFile) (msg : List ℕ) (from : ℕ) (first : RenderState) (rows₀ rows : List ℕ)
-    (st : RenderState) (blank : Bool) (at n looked : ℕ) (widths : List ℕ) (held : ℕ) : Type 0 where
-  pub counted : from + n ≤ at
-  pub few : from + looked ≤ at
-  pub within : at ≤ length msg
+    (p : Reached) (blank : Bool) (held : Held) : Type 0 where
+  pub counted : from + p.count ≤ p.at
+  pub few : from + p.looked ≤ p.at
+  pub within : p.at ≤ length msg
   pub asked : PassAsked file table msg from first rows₀
   pub room : length rows ≡ length rows₀
-  pub inside : Inside table.config st.rect
-  pub ending : ending_of table.config (items_from table.config at msg) st blank ≡ ending_of table.config (items_from table.config from msg) first true
+  pub rect : p.state.rect ≡ first.rect
+  pub ending :
+      ending_of table.config (items_from table.config p.at msg) p.state blank ≡ ending_of table.config (items_from table.config from msg) first true
   pub entries :
-      rows_of rows n ++ map (row_of (meter_in file msg)) (entries_of table.config (items_from table.config at msg) st blank)
+      rows_of rows p.count ++ map (row_of (meter_in file msg)) (entries_of table.config (items_from table.config p.at msg) p.state blank)
       ≡ map (row_of (meter_in file msg)) (entries_of table.config (items_from table.config from msg) first true)
   pub sum :
-      looked + sum_of (looked_by file msg) (entries_of table.config (items_from table.config at msg) st blank)
+      p.looked + sum_of (looked_by file msg) (entries_of table.config (items_from table.config p.at msg) p.state blank)
       ≡ sum_of (looked_by file msg) (entries_of table.config (items_from table.config from msg) first true)
-  pub kept : held < 256 → WidthsOf file table held widths
+  pub holds : Holds file table held
 
 module _ {file : List ℕ} {table : SignFile} {msg : List ℕ} {from : ℕ} {first : RenderState} {rows₀ rows : List ℕ}
-    {st : RenderState} {blank : Bool} {at n looked : ℕ} {widths : List ℕ} {held : ℕ}
-    (z : Stands file table msg from first rows₀ rows st blank at n looked widths held) where
+    {p : Reached} {blank : Bool} {held : Held} (z : Stands file table msg from first rows₀ rows p blank held) where
   abbrev c : Config
   c = table.config
+
+  abbrev at : ℕ
+  at = p.at
+
+  abbrev st : RenderState
+  st = p.state
 
   -- the row of an entry
   abbrev f : Entry → Row
@@ -116,38 +121,58 @@ module _ {file : List ℕ} {table : SignFile} {msg : List ℕ} {from : ℕ} {fir
   Looked = looked_for (entries_of c (items_from c from msg) first true)
 
   -- what is promised of the end
-  abbrev Ends : PassEnd → Type 0
+  abbrev Ends : Result PassDone Refusal → Type 0
   Ends = PassRead file table msg from first rows₀ rows
 
+  abbrev done : How → Reached → PassDone
+  done h q = record { how = h; rect = first.rect; reached = q }
+
   -- the pass is done
-  finish : {v : PassEnd} {d : PassDone} → v ≡ EndedBy d → told c msg (EndedBy d) ≡ End → SpansRead file table msg from first rows d → Ends v
-  finish q e s = subst Ends (sym q) (record { ends = e; done = s; room = z.room })
+  finish : (h : How) (q : Reached) → ended h st.rect q.state (items_from c q.at msg) ≡ End → SpansRead file table msg from first rows (done h q)
+      → Ends (Ok (done h q))
+  finish h q e s = record { ends = subst (λ (x : Rect). ended h x q.state (items_from c q.at msg) ≡ End) z.rect e; done = s; room = z.room }
 
   -- the message's end
-  pub pass_end : {v : PassEnd} → length msg ≤ at → v ≡ EndedBy (done_by ByEnd at n looked st.rect st) → Ends v
-  pass_end h q =
-      finish q (last_ending (items_from c at msg) none_left ∙ z.ending)
+  pub pass_end : at ≡ length msg → Ends (Ok (done ByEnd p))
+  pass_end h =
+      finish ByEnd p (last_ending (items_from c at msg) none_left ∙ z.ending)
       (record {
         spans = last_entries (items_from c at msg) none_left ∙ z.entries;
         looked = last_sum (items_from c at msg) none_left ∙ z.sum;
         counted = omega (arith, z.counted);
         few = z.few;
         within = z.within;
-        inside = z.inside;
-        next = z.inside;
+        inside = z.asked.inside;
+        next = rw z.rect z.asked.inside;
       })
     where
       none_left : items_from c at msg ≡ []
-      none_left = items_end c at msg h
+      none_left = items_end c at msg (omega arith)
 
       last_ending : (its : List Item) → its ≡ [] → ended ByEnd st.rect st its ≡ ending_of c its st blank
       last_ending its e = rw e
 
-      last_entries : (its : List Item) → its ≡ [] → rows_of rows n ≡ rows_of rows n ++ map f (entries_of c its st blank)
-      last_entries its e = rw e (sym (append-nil (rows_of rows n)))
+      last_entries : (its : List Item) → its ≡ [] → rows_of rows p.count ≡ rows_of rows p.count ++ map f (entries_of c its st blank)
+      last_entries its e = rw e (sym (append-nil (rows_of rows p.count)))
 
-      last_sum : (its : List Item) → its ≡ [] → looked ≡ looked + looked_for (entries_of c its st blank)
+      last_sum : (its : List Item) → its ≡ [] → p.looked ≡ p.looked + looked_for (entries_of c its st blank)
       last_sum its e = rw e (omega arith)
+
+  -- the slice at the place
+  pub pass_asks : (at ≡ length msg → ⊥) → ((i : ℕ) → Val.Fits w8 (get_or file i 0)) → {r : ℕ} → r ≡ at + slice_len (drop at msg) → Sliced c msg at r
+  pass_asks d b {r} e =
+      let o : AcceptedTable file table = z.asked.opened in
+      let a : Accepts file table = accepts file table o.0 (λ i. omega (arith, b i)) o.1 in
+      let h : at < length msg = omega (arith, z.within) in
+      record {
+        more = h;
+        next = e;
+        forward = next_from at msg h r e;
+        within = next_le at msg h r e;
+        small = z.asked.small;
+        lines = a.good.config.line_to;
+        pages = a.good.config.page_to;
+      }
 
   -- the slice at the place: r is its end, t what it does
   module _ {r : ℕ} {t : Step} (g : Steps table.config msg st blank at r t) where
@@ -199,39 +224,43 @@ module _ {file : List ℕ} {table : SignFile} {msg : List ℕ} {from : ℕ} {fir
       ends_so : ending u ≡ End
       ends_so = sym (here_ending ∙ ap ending q) ∙ z.ending
 
-      spans_so : rows_of rows n ++ map f (entries u) ≡ All
-      spans_so = ap (λ (l : List Entry). rows_of rows n ++ map f l) (sym (here_entries ∙ ap entries q)) ∙ z.entries
+      spans_so : rows_of rows p.count ++ map f (entries u) ≡ All
+      spans_so = ap (λ (l : List Entry). rows_of rows p.count ++ map f l) (sym (here_entries ∙ ap entries q)) ∙ z.entries
 
-      sum_so : looked + looked_for (entries u) ≡ Looked
-      sum_so = ap (λ (l : List Entry). looked + looked_for l) (sym (here_entries ∙ ap entries q)) ∙ z.sum
+      sum_so : p.looked + looked_for (entries u) ≡ Looked
+      sum_so = ap (λ (l : List Entry). p.looked + looked_for l) (sym (here_entries ∙ ap entries q)) ∙ z.sum
 
       lies_so : StepWithin c st (item_at c slice) u
       lies_so = subst (StepWithin c st (item_at c slice)) q lies
 
-    pub pass_refuse : {x : Refusal} → t ≡ Refuse x → Ends (RefusedBy x)
+    pub pass_refuse : {x : Refusal} → t ≡ Refuse x → Ends (Err x)
     pass_refuse q = record { ends = ends_so q; done = tt; room = z.room }
 
+    -- the place past the slice
+    abbrev next : RenderState → Reached
+    next st' = record { at = r; count = p.count; looked = p.looked; state = st' }
+
     -- [tr] or [np]: no span comes after it
-    closed : {h : How} {st' : RenderState} → rows_of rows n ++ [] ≡ All → looked + 0 ≡ Looked → tag_bytes h ≤ 1 → Inside c st'.rect
-        → SpansRead file table msg from first rows (done_by h r n looked st.rect st')
-    closed e l k i =
+    closed : (h : How) (st' : RenderState) → rows_of rows p.count ++ [] ≡ All → p.looked + 0 ≡ Looked → tag_bytes h ≤ 1 → Inside c st'.rect
+        → SpansRead file table msg from first rows (done h (next st'))
+    closed h st' e l k i =
         record {
-          spans = sym (append-nil (rows_of rows n)) ∙ e;
+          spans = sym (append-nil (rows_of rows p.count)) ∙ e;
           looked = omega (arith, l);
           counted = omega (arith, z.counted, more, k);
           few = omega (arith, z.few, more);
           within = past;
-          inside = z.inside;
+          inside = z.asked.inside;
           next = i;
         }
 
-    pub pass_cut : {st' : RenderState} {v : PassEnd} → t ≡ Cut st' → v ≡ EndedBy (done_by ByCut r n looked st.rect st') → Ends v
-    pass_cut {st'} q e = finish e (ends_so q) (closed (spans_so q) (sum_so q) (omega arith) (fits_inside c st'.rect (lies_so q).1))
+    pub pass_cut : {st' : RenderState} → t ≡ Cut st' → Ends (Ok (done ByCut (next st')))
+    pass_cut {st'} q = finish ByCut (next st') (ends_so q) (closed ByCut st' (spans_so q) (sum_so q) (omega arith) (fits_inside c st'.rect (lies_so q).1))
 
-    pub pass_turn : {v : PassEnd} → t ≡ Turn → v ≡ EndedBy (done_by ByTurn r n looked st.rect st) → Ends v
-    pass_turn q e = finish e (ends_so q) (closed (spans_so q) (sum_so q) (omega arith) z.inside)
+    pub pass_turn : t ≡ Turn → Ends (Ok (done ByTurn (next st)))
+    pass_turn q = finish ByTurn (next st) (ends_so q) (closed ByTurn st (spans_so q) (sum_so q) (omega arith) (rw z.rect z.asked.inside))
 
-    pub pass_go : {st' : RenderState} {b : Bool} → t ≡ Go st' b → Stands file table msg from first rows₀ rows st' b r n looked widths held
+    pub pass_go : {st' : RenderState} {b : Bool} → t ≡ Go st' b → Stands file table msg from first rows₀ rows (next st') b held
     pass_go {st'} q =
         record {
           counted = omega (arith, z.counted, more);
@@ -239,11 +268,11 @@ module _ {file : List ℕ} {table : SignFile} {msg : List ℕ} {from : ℕ} {fir
           within = past;
           asked = z.asked;
           room = z.room;
-          inside = same_inside c st'.rect st.rect (lies_so q).1 z.inside;
+          rect = (lies_so q).1 ∙ z.rect;
           ending = ends_so q;
           entries = spans_so q;
           sum = sum_so q;
-          kept = z.kept;
+          holds = z.holds;
         }
 
     -- a span: its row is stored
@@ -272,24 +301,24 @@ module _ {file : List ℕ} {table : SignFile} {msg : List ℕ} {from : ℕ} {fir
             codes_fit = λ k. rw (starts, ← take-take x.len (r - at) (drop at msg) shorter) (narrow k);
           }
 
-      pub pass_stores : Storable file table msg x held widths rows n
-      pass_stores = record { opened = z.asked.opened; reads = pass_reads; kept = z.kept; few = omega (arith, g.more); room = omega (arith, g.more) }
+      pub pass_stores : Storable file table msg x held rows p.count
+      pass_stores = record { opened = z.asked.opened; reads = pass_reads; holds = z.holds; few = omega (arith, g.more); room = omega (arith, g.more) }
 
       -- the rows from here on
       abbrev later : List Row
       later = map f (entries_of c (items_from c r msg) st' b)
 
       -- no more characters than the slice has bytes
-      looked_here : {widths' rows' : List ℕ} {y : Kept} → Stored file table msg x rows n widths' rows' y → y.looked ≤ r - at
+      looked_here : {held' : Held} {rows' : List ℕ} {y : ℕ} → Stored file table msg x rows p.count held' rows' y → y ≤ r - at
       looked_here w =
           rw w.looked
           (looked_few msg x (capitals_in (sign_file file)) (font_numbered x.state.font (fonts_in (sign_file file))) (r - at) shorter (omega (arith, more)))
 
-      pub pass_adds : {widths' rows' : List ℕ} {y : Kept} → Stored file table msg x rows n widths' rows' y → Val.Fits w64 (looked + y.looked)
+      pub pass_adds : {held' : Held} {rows' : List ℕ} {y : ℕ} → Stored file table msg x rows p.count held' rows' y → Val.Fits w64 (p.looked + y)
       pass_adds w = omega (arith, looked_here w, z.few, more, past, z.asked.small)
 
-      pub pass_emit : {widths' rows' : List ℕ} {y : Kept} → Stored file table msg x rows n widths' rows' y
-          → Stands file table msg from first rows₀ rows' st' b r (n + 1) (looked + y.looked) widths' y.font
+      pub pass_emit : {held' : Held} {rows' : List ℕ} {y : ℕ} → Stored file table msg x rows p.count held' rows' y
+          → Stands file table msg from first rows₀ rows' (record { at = r; count = p.count + 1; looked = p.looked + y; state = st' }) b held'
       pass_emit {y = y} w =
           record {
             counted = omega (arith, z.counted, more);
@@ -297,74 +326,62 @@ module _ {file : List ℕ} {table : SignFile} {msg : List ℕ} {from : ℕ} {fir
             within = past;
             asked = z.asked;
             room = w.room ∙ z.room;
-            inside = same_inside c st'.rect st.rect spoke.1 z.inside;
+            rect = spoke.1 ∙ z.rect;
             ending = ends_so q;
             entries =
-                ap (λ (y : List ℕ). rows_of y (n + 1) ++ later) w.row
-                ∙ ap (λ (y : List Row). y ++ later) (rows_put rows n (f x) pass_stores.room w.bytes)
-                ∙ append_assoc (rows_of rows n) (f x ∷ []) later
+                ap (λ (y : List ℕ). rows_of y (p.count + 1) ++ later) w.row
+                ∙ ap (λ (y : List Row). y ++ later) (rows_put rows p.count (f x) pass_stores.room w.bytes)
+                ∙ append_assoc (rows_of rows p.count) (f x ∷ []) later
                 ∙ spans_so q;
             sum = omega (arith, w.looked, sum_so q);
-            kept = λ _. rw w.font w.kept;
+            holds = w.holds;
           }
 
 module _ {file : List ℕ} {table : SignFile} {msg : List ℕ} {from : ℕ} {first : RenderState} {rows : List ℕ}
     (asked : PassAsked file table msg from first rows) where
   -- where the loop begins
-  pub pass_start : {widths : List ℕ} → Stands file table msg from first rows rows first true from 0 0 widths 256
+  pub pass_start : {q : Reached} {held : Held} → q ≡ start_at from first → held.font ≡ None → Stands file table msg from first rows rows q true held
   unfolding rows_of
-  pass_start =
-      record {
+  pass_start {held = held} d e =
+      subst (λ (q : Reached). Stands file table msg from first rows rows q true held) (sym d)
+      (record {
         counted = omega arith;
         few = omega arith;
         within = asked.within;
         asked = asked;
         room = refl;
-        inside = asked.inside;
+        rect = refl;
         ending = refl;
         entries = refl;
         sum = omega arith;
-        kept = λ h. absurd (omega arith);
-      }
-
-  -- the slice at a place
-  pub pass_asks : ((i : ℕ) → Val.Fits w8 (get_or file i 0)) → {at r : ℕ} → at < length msg → r ≡ at + slice_len (drop at msg) → Sliced table.config msg at r
-  pass_asks b {at} {r} h e =
-      let o : AcceptedTable file table = asked.opened in
-      let a : Accepts file table = accepts file table o.0 (λ i. omega (arith, b i)) o.1 in
-      record {
-        more = h;
-        next = e;
-        forward = next_from at msg h r e;
-        within = next_le at msg h r e;
-        small = asked.small;
-        lines = a.good.config.line_to;
-        pages = a.good.config.page_to;
-      }
+        holds = rw e tt;
+      })
 
 -- ---- a span's row
 
-pub stored_by_law : {file : List ℕ} {table : SignFile} {msg : List ℕ} {e : Entry} {rows : List ℕ} {n : ℕ} {widths' rows' : List ℕ} {held' : ℕ} {y : RowLooked}
-    → RowTaken file msg e y → RowPut rows n y.row rows'
-    → held' ≡ e.state.font → WidthsOf file table e.state.font widths'
-    → Stored file table msg e rows n widths' rows' (record { font = held'; looked = y.looked })
-stored_by_law {rows = rows} {n = n} p d q w =
+pub stored_by_law : {file : List ℕ} {table : SignFile} {msg : List ℕ} {e : Entry} {rows : List ℕ} {n : ℕ} {held' : Held} {rows' : List ℕ} {y : RowLooked}
+    → RowTaken file msg e y → RowPut rows n y.row rows' → Holds file table held'
+    → Stored file table msg e rows n held' rows' y.looked
+stored_by_law {rows = rows} {n = n} p d w =
     record {
       row = d.put ∙ ap (put_row rows n) p.is;
       bytes = subst ByteFields p.is d.bytes;
-      font = q;
       looked = p.looked;
-      kept = w;
+      holds = w;
       room = d.room;
     }
 
 -- ---- the widths of a font
 
-module _ (file : List ℕ) (t : SignFile) (font r : ℕ) (e : r ≡ font) (widths : List ℕ) where
-  pub held_same : font < 256 → (held : ℕ) → (held < 256 → WidthsOf file t held widths) → held ≡ r → WidthsOf file t font widths
-  held_same b held h q =
-      let d : held ≡ font = q ∙ e in
-      subst (λ (n : ℕ). WidthsOf file t n widths) d (h (rw d b))
+font_same : (o : Option ℕ) (n : ℕ) → not (option_eq eqb o (Some n)) ≡ false → o ≡ Some n
+font_same None n e = cc
+font_same (Some m) n e = ap (λ (k : ℕ). Some k) (eqb-true m n (not-false (eqb m n) e))
+
+pub held_same : (file : List ℕ) (t : SignFile) (h : Held) (n : ℕ) {b : Bool} → Holds file t h → b ≡ not (option_eq eqb h.font (Some n)) → b ≡ false
+    → (h.font ≡ Some n) × WidthsOf file t n h.widths
+held_same file t h n k d e =
+    let s : h.font ≡ Some n = font_same h.font n (sym d ∙ e) in
+    (s, subst (λ (o : Option ℕ). IfSome o (λ m. WidthsOf file t m h.widths)) s k)
 
 -- ---- a step
 

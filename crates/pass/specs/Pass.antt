@@ -1,5 +1,5 @@
 -- A pass as the code reads it: its spans, and how it ends. `read_pass` of proofs/Read.antt says that layout's `read` is made of these.
-use Rattle.std.specs.Prelude.{ℕ, ◌+◌, ◌-◌, ◌≤◌, ◌<◌, ◌≡◌, Bool, true, List, [], ◌∷◌, map, length, take, drop}
+use Rattle.std.specs.Prelude.{ℕ, ◌+◌, ◌-◌, ◌≤◌, ◌<◌, ◌≡◌, Bool, true, List, [], ◌∷◌, map, length, take, drop, Result, Ok, Err, IfSome, IfOk}
 use Rattle.token.specs.Token.{slice_len}
 use Rattle.refusal.specs.declared.Refusal.{Refusal}
 use Rattle.records.specs.declared.Config.{Config}
@@ -18,10 +18,9 @@ use Rattle.counts.specs.Placing.{sum_of}
 use Rattle.meter.specs.Gauges.{AcceptedTable, WidthsOf, EntryIn, meter_in, looked_by}
 use Rattle.pass.specs.declared.How.{How}
 use Rattle.pass.specs.declared.How.TheVariants.{Cut as ByCut, Turn as ByTurn, End as ByEnd}
-use Rattle.pass.specs.declared.Kept.{Kept}
+use Rattle.pass.specs.declared.Held.{Held}
 use Rattle.pass.specs.declared.PassDone.{PassDone}
-use Rattle.pass.specs.declared.PassEnd.{PassEnd}
-use Rattle.pass.specs.declared.PassEnd.TheVariants.{Refused as RefusedBy, Ended as EndedBy}
+use Rattle.pass.specs.declared.Reached.{Reached}
 
 -- how a pass ends: a refusal; or what ended it, its rectangle, the state after [tr], before [np] or at the message's end, and the items left
 pub data Ending : Type 0 where
@@ -56,18 +55,14 @@ ending_of c (it ∷ its) st blank = ending_by st its (ending_of c its) (step c s
 unfoldable pub step_at : Config → RenderState → Bool → ℕ → List ℕ → Step
 step_at c st blank at s = step c st blank (item_at c (record { start = at; bytes = s }))
 
-abbrev pub done_by : How → ℕ → ℕ → ℕ → Rect → RenderState → PassDone
-done_by h at n k r st = record { how = h; at = at; count = n; looked = k; rect = r; state = st }
+-- before the first span
+abbrev pub start_at : ℕ → RenderState → Reached
+start_at at st = record { at = at; count = 0; looked = 0; state = st }
 
 -- the ending that the code tells
-abbrev pub told : Config → List ℕ → PassEnd → Ending
-told c msg (RefusedBy r) = refused r
-told c msg (EndedBy d) = ended d.how d.rect d.state (items_from c d.at msg)
-
--- what is said of a pass, unless it is refused
-abbrev pub IfEnded : (PassDone → Type 0) → PassEnd → Type 0
-IfEnded P (RefusedBy r) = Unit {0}
-IfEnded P (EndedBy d) = P d
+abbrev pub told : Config → List ℕ → Result PassDone Refusal → Ending
+told c msg (Err r) = refused r
+told c msg (Ok d) = ended d.how d.rect d.reached.state (items_from c d.reached.at msg)
 
 -- a rectangle that lies inside the sign
 pub record Inside (c : Config) (r : Rect) : Type 0 where
@@ -96,21 +91,24 @@ pub record Steps (c : Config) (msg : List ℕ) (st : RenderState) (blank : Bool)
   pub next : end ≡ at + slice_len (drop at msg)
   pub does : r ≡ step_at c st blank at (take (end - at) (drop at msg))
 
--- a span's row can be stored; the widths are those of the font held, if it is below 256
-pub record Storable (file : List ℕ) (table : SignFile) (msg : List ℕ) (e : Entry) (held : ℕ) (widths rows : List ℕ) (n : ℕ) : Type 0 where
+-- the widths held are those of the font held, if there is one
+abbrev pub Holds : List ℕ → SignFile → Held → Type 0
+Holds file table h = IfSome h.font (λ n. WidthsOf file table n h.widths)
+
+-- a span's row can be stored
+pub record Storable (file : List ℕ) (table : SignFile) (msg : List ℕ) (e : Entry) (held : Held) (rows : List ℕ) (n : ℕ) : Type 0 where
   pub opened : AcceptedTable file table
   pub reads : EntryIn msg e
-  pub kept : held < 256 → WidthsOf file table held widths
+  pub holds : Holds file table held
   pub few : n < 2048
   pub room : RowRoom (n + 1) rows
 
 -- it was: the widths are those of its font, and its measure looked so many characters up
-pub record Stored (file : List ℕ) (table : SignFile) (msg : List ℕ) (e : Entry) (rows : List ℕ) (n : ℕ) (widths' rows' : List ℕ) (r : Kept) : Type 0 where
+pub record Stored (file : List ℕ) (table : SignFile) (msg : List ℕ) (e : Entry) (rows : List ℕ) (n : ℕ) (held' : Held) (rows' : List ℕ) (k : ℕ) : Type 0 where
   pub row : rows' ≡ put_row rows n (row_of (meter_in file msg) e)
   pub bytes : ByteFields (row_of (meter_in file msg) e)
-  pub font : r.font ≡ e.state.font
-  pub looked : r.looked ≡ looked_by file msg e
-  pub kept : WidthsOf file table e.state.font widths'
+  pub looked : k ≡ looked_by file msg e
+  pub holds : Holds file table held'
   pub room : length rows' ≡ length rows
 
 -- a message for an accepted file, from a place on, with room for its rows
@@ -124,18 +122,19 @@ pub record PassAsked (file : List ℕ) (table : SignFile) (msg : List ℕ) (from
 -- a pass that is done: the first rows are its spans', and their measures looked so many characters up; each has a byte beside those of its end; and its
 -- rectangles lie inside the sign
 pub record SpansRead (file : List ℕ) (table : SignFile) (msg : List ℕ) (from : ℕ) (first : RenderState) (rows : List ℕ) (d : PassDone) : Type 0 where
-  pub spans : rows_of rows d.count ≡ map (row_of (meter_in file msg)) (entries_of table.config (items_from table.config from msg) first true)
-  pub looked : d.looked ≡ sum_of (looked_by file msg) (entries_of table.config (items_from table.config from msg) first true)
-  pub counted : from + d.count + tag_bytes d.how ≤ d.at
-  pub few : from + d.looked ≤ d.at
-  pub within : d.at ≤ length msg
+  pub spans : rows_of rows d.reached.count ≡ map (row_of (meter_in file msg)) (entries_of table.config (items_from table.config from msg) first true)
+  pub looked : d.reached.looked ≡ sum_of (looked_by file msg) (entries_of table.config (items_from table.config from msg) first true)
+  pub counted : from + d.reached.count + tag_bytes d.how ≤ d.reached.at
+  pub few : from + d.reached.looked ≤ d.reached.at
+  pub within : d.reached.at ≤ length msg
   pub inside : Inside table.config d.rect
-  pub next : Inside table.config d.state.rect
+  pub next : Inside table.config d.reached.state.rect
 
 -- the pass from a place on was read, and ended so; rows were there before it, and rows' are after it
-pub record PassRead (file : List ℕ) (table : SignFile) (msg : List ℕ) (from : ℕ) (first : RenderState) (rows rows' : List ℕ) (r : PassEnd) : Type 0 where
+pub record PassRead (file : List ℕ) (table : SignFile) (msg : List ℕ) (from : ℕ) (first : RenderState) (rows rows' : List ℕ) (r : Result PassDone Refusal)
+    : Type 0 where
   pub ends : told table.config msg r ≡ ending_of table.config (items_from table.config from msg) first true
-  pub done : IfEnded (SpansRead file table msg from first rows') r
+  pub done : IfOk r (SpansRead file table msg from first rows')
   pub room : length rows' ≡ length rows
 
 -- what follows a pass that is done

@@ -1,10 +1,10 @@
 // Reading a pass: the values of a message up to [tr], [np] or the end, into rows of measured spans.
 #![tactic(auto)]
 
-ghost use Rattle.std.specs.Prelude.{◌≡◌, ◌≤◌, ◌<◌};
+ghost use Rattle.std.specs.Prelude.{◌≡◌, ◌≤◌, Some, None};
 ghost use Rattle.layout.specs.Read.{item_step};
 ghost use Rattle.meter.specs.Gauges.{WidthsOf};
-ghost use Rattle.pass.specs.Pass.{done_by, Sliced, Steps, Storable, Stored, PassAsked, PassRead};
+ghost use Rattle.pass.specs.Pass.{start_at, Holds, Sliced, Steps, Storable, Stored, PassAsked, PassRead};
 
 use layout::{Entry, Rect, RenderState, Step};
 use reading::Said;
@@ -21,22 +21,37 @@ pub enum How {
     End,
 }
 
-// A pass that is done: what ended it, the place past that, the count of its spans, how many characters their measures looked up, its
-// rectangle, and the state after [tr], before [np] or at the message's end.
+// How far the reading of a page has come: the place in the message, the counts of spans and of the characters looked up for them, and the
+// state.
 #[derive(Clone, Copy)]
-pub struct PassDone {
-    pub how: How,
+pub struct Reached {
     pub at: usize,
     pub count: usize,
     pub looked: usize,
-    pub rect: Rect,
     pub state: RenderState,
 }
 
+impl Reached {
+    // Before the first span.
+    pub fn start(at: usize, state: RenderState) -> Reached
+        ensures { result ≡ start_at at state }
+    {
+        Reached {
+            at,
+            count: 0,
+            looked: 0,
+            state,
+        }
+    }
+}
+
+// A pass that is done: what ended it, its rectangle, and how far it came: the place past what ended it, and the state after [tr], before
+// [np] or at the message's end.
 #[derive(Clone, Copy)]
-pub enum PassEnd {
-    Refused(Refusal),
-    Ended(PassDone),
+pub struct PassDone {
+    pub how: How,
+    pub rect: Rect,
+    pub reached: Reached,
 }
 
 // What an item at a place does.
@@ -69,68 +84,52 @@ fn step_at(msg: &[u8], at: usize, end: usize, c: Config, st: RenderState, blank:
     step_by(c, st, blank, p, item)
 }
 
-// Fills the widths anew if they are not the font's. Held, and answered, is the font whose widths they are; 256 is none.
-fn keep(file: &[u8], table: SignFile, font: u8, held: u16, widths: &mut [u16; 256]) -> u16
-    requires { held < 256 → WidthsOf file.now table held widths.old }
-    ensures { (result ≡ font) × WidthsOf file.now table font widths.new }
-{
-    let wanted = base::wide16(font);
-    if held == wanted {
-        return wanted;
+// The font that was measured in last, if any, and its widths.
+#[derive(Drop)]
+pub struct Held {
+    font: Option<u8>,
+    widths: [u16; 256],
+}
+
+impl Held {
+    fn new() -> Held
+        ensures { result.font ≡ None }
+    {
+        Held {
+            font: None,
+            widths: [0; 256],
+        }
     }
-    *widths = meter::widths_of(file, table, font);
-    wanted
+
+    // Fills the widths anew if they are not the font's.
+    fn keep(&mut self, file: &[u8], table: SignFile, font: u8)
+        requires { Holds file.now table self.old }
+        ensures { (self.new.font ≡ Some font) × WidthsOf file.now table font self.new.widths }
+    {
+        if self.font != Some(font) {
+            self.font = Some(font);
+            self.widths = meter::widths_of(file, table, font);
+        }
+    }
 }
 
-// The font whose widths are kept, and how many characters a span's measure looked up.
-#[derive(Clone, Copy)]
-pub struct Kept {
-    pub font: u16,
-    pub looked: usize,
-}
-
-// Stores a span's row, and keeps the widths of its font.
+// Stores a span's row, and answers how many characters its measure looked up.
 fn store(
     file: &[u8],
     table: SignFile,
     msg: &[u8],
     e: Entry,
-    held: u16,
-    widths: &mut [u16; 256],
+    held: &mut Held,
     rows: &mut [u16],
     n: usize,
-) -> Kept
-    requires { Storable file.now table msg.now e held widths.old rows.old n }
-    ensures { Stored file.now table msg.now e rows.old n widths.new rows.new result }
+) -> usize
+    requires { Storable file.now table msg.now e held.old rows.old n }
+    ensures { Stored file.now table msg.now e rows.old n held.new rows.new result }
 {
-    let font = keep(file, table, e.state.font, held, widths);
-    let r = meter::row_of(file, table, widths, msg, e);
+    held.keep(file, table, e.state.font);
+    let r = meter::row_of(file, table, &held.widths, msg, e);
     rows::put_row(rows, n, r.row);
-    Kept {
-        font,
-        looked: r.looked,
-    }
-}
-
-// The pass is done.
-pub fn end_pass(
-    how: How,
-    at: usize,
-    count: usize,
-    looked: usize,
-    rect: Rect,
-    state: RenderState,
-) -> PassEnd
-    ensures { result ≡ PassEnd.Ended (done_by how at count looked rect state) }
-{
-    PassEnd::Ended(PassDone {
-        how,
-        at,
-        count,
-        looked,
-        rect,
-        state,
-    })
+    r.looked
 }
 
 // The pass from a place on. Its spans' rows stand first in the slice.
@@ -141,45 +140,43 @@ pub fn read_pass(
     from: usize,
     start: RenderState,
     rows: &mut [u16],
-) -> PassEnd
+) -> Result<PassDone, Refusal>
     requires { PassAsked file.now table msg.now from start rows.old }
     ensures { PassRead file.now table msg.now from start rows.old rows.new result }
 {
-    let c = table.config;
-    let mut st = start;
+    let mut p = Reached::start(from, start);
     let mut blank = true;
-    let mut at = from;
-    let mut n: usize = 0;
-    let mut looked: usize = 0;
-    let mut widths = [0u16; 256];
-    let mut held: u16 = 256;
-    while at < msg.len() {
+    let mut held = Held::new();
+    let how = loop {
+        if p.at == msg.len() {
+            break How::End;
+        }
+        let at = p.at;
         let end = token::slice_end(msg, at);
-        match step_at(msg, at, end, c, st, blank) {
-            Step::Refuse(r) => {
-                return PassEnd::Refused(r);
-            }
+        let step = step_at(msg, at, end, table.config, p.state, blank);
+        p.at = end;
+        match step {
+            Step::Refuse(r) => return Err(r),
             Step::Go(next, b) => {
-                st = next;
+                p.state = next;
                 blank = b;
-                at = end;
             }
             Step::Emit(e, next, b) => {
-                let kept = store(file, table, msg, e, held, &mut widths, rows, n);
-                held = kept.font;
-                looked += kept.looked;
-                st = next;
+                p.looked += store(file, table, msg, e, &mut held, rows, p.count);
+                p.count += 1;
+                p.state = next;
                 blank = b;
-                at = end;
-                n += 1;
             }
             Step::Cut(next) => {
-                return end_pass(How::Cut, end, n, looked, st.rect, next);
+                p.state = next;
+                break How::Cut;
             }
-            Step::Turn => {
-                return end_pass(How::Turn, end, n, looked, st.rect, st);
-            }
+            Step::Turn => break How::Turn,
         }
-    }
-    end_pass(How::End, at, n, looked, st.rect, st)
+    };
+    Ok(PassDone {
+        how,
+        rect: start.rect,
+        reached: p,
+    })
 }
