@@ -1,6 +1,5 @@
 use Rattle.meter.proofs.Laws.{none_fields}
-use borrow.Author.Rules.{rules}
 use Rattle.meter.proofs.no_font.Goals as goal
 
 pub returns : goal.returns
-returns c = search (none_fields, rules) depth 6
+returns c = none_fields _ _ _ c.unwrap_or.ensures c.from.ensures
