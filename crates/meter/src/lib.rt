@@ -21,16 +21,8 @@ fn hex_width(call: &Call, f: FontEntry, widths: &[u16], code: u16, spacing: u16)
     ensures { WidthFound (font_letters call.now f) spacing (code ∷ []) result }
 {
     let capitals = call.table.config.capitals;
-    font::with_character(
-        call.file,
-        f,
-        capitals,
-        widths,
-        0,
-        0,
-        u32::from(code),
-        spacing,
-    )
+    let code = u32::from(code);
+    font::with_character(call.file, f, capitals, widths, 0, 0, code, spacing)
 }
 
 // The width of a text of the message.

@@ -7,10 +7,11 @@ ghost use Rattle.meter.specs.Gauges.{WidthsOf};
 ghost use Rattle.pass.specs.Pass.{start_at, Holds, Sliced, Steps, Storable, Stored, PassAsked, PassRead};
 
 use layout::{Entry, Rect, RenderState, Step};
+use meter::Call;
 use reading::Said;
 use records::Config;
 use refusal::Refusal;
-use sign::SignFile;
+use rows::Row;
 use value::Place;
 
 // What ends a pass: [tr], [np] or the message's end.
@@ -71,11 +72,12 @@ fn step_by(c: Config, st: RenderState, blank: bool, p: Place, item: Said) -> Ste
 }
 
 // What the slice from a place to its end does.
-fn step_at(msg: &[u8], at: usize, end: usize, c: Config, st: RenderState, blank: bool) -> Step
-    requires { Sliced c msg.now at end }
-    ensures { Steps c msg.now st blank at end result }
+fn step_at(call: &Call, at: usize, end: usize, st: RenderState, blank: bool) -> Step
+    requires { Sliced call.now at end }
+    ensures { Steps call.now st blank at end result }
 {
-    let s = &msg[at..end];
+    let c = call.table.config;
+    let s = &call.msg[at..end];
     let item = reading::item_of(at, s, c.long_times);
     let p = Place {
         start: at as u16,
@@ -102,58 +104,48 @@ impl Held {
     }
 
     // Fills the widths anew if they are not the font's.
-    fn keep(&mut self, file: &[u8], table: SignFile, font: u8)
-        requires { Holds file.now table self.old }
-        ensures { (self.new.font ≡ Some font) × WidthsOf file.now table font self.new.widths }
+    fn keep(&mut self, call: &Call, font: u8)
+        requires { Holds call.now self.old }
+        ensures { (self.new.font ≡ Some font) × WidthsOf call.now font self.new.widths }
     {
         if self.font != Some(font) {
             self.font = Some(font);
-            self.widths = meter::widths_of(file, table, font);
+            self.widths = meter::widths_of(call, font);
         }
     }
 }
 
 // Stores a span's row, and answers how many characters its measure looked up.
-fn store(
-    file: &[u8],
-    table: SignFile,
-    msg: &[u8],
-    e: Entry,
-    held: &mut Held,
-    rows: &mut [u16],
-    n: usize,
-) -> usize
-    requires { Storable file.now table msg.now e held.old rows.old n }
-    ensures { Stored file.now table msg.now e rows.old n held.new rows.new result }
+fn store(call: &Call, e: Entry, held: &mut Held, rows: &mut [Row], n: usize) -> usize
+    requires { Storable call.now e held.old rows.old n }
+    ensures { Stored call.now e rows.old n held.new rows.new result }
 {
-    held.keep(file, table, e.state.font);
-    let r = meter::row_of(file, table, &held.widths, msg, e);
-    rows::put_row(rows, n, r.row);
+    held.keep(call, e.state.font);
+    let r = meter::row_of(call, &held.widths, e);
+    rows[n] = r.row;
     r.looked
 }
 
 // The pass from a place on. Its spans' rows stand first in the slice.
 pub fn read_pass(
-    file: &[u8],
-    table: SignFile,
-    msg: &[u8],
+    call: &Call,
     from: usize,
     start: RenderState,
-    rows: &mut [u16],
+    rows: &mut [Row],
 ) -> Result<PassDone, Refusal>
-    requires { PassAsked file.now table msg.now from start rows.old }
-    ensures { PassRead file.now table msg.now from start rows.old rows.new result }
+    requires { PassAsked call.now from start rows.old }
+    ensures { PassRead call.now from start rows.old rows.new result }
 {
     let mut p = Reached::start(from, start);
     let mut blank = true;
     let mut held = Held::new();
     let how = loop {
-        if p.at == msg.len() {
+        if p.at == call.msg.len() {
             break How::End;
         }
         let at = p.at;
-        let end = token::slice_end(msg, at);
-        let step = step_at(msg, at, end, table.config, p.state, blank);
+        let end = token::slice_end(call.msg, at);
+        let step = step_at(call, at, end, p.state, blank);
         p.at = end;
         match step {
             Step::Refuse(r) => return Err(r),
@@ -162,7 +154,7 @@ pub fn read_pass(
                 blank = b;
             }
             Step::Emit(e, next, b) => {
-                p.looked += store(file, table, msg, e, &mut held, rows, p.count);
+                p.looked += store(call, e, &mut held, rows, p.count);
                 p.count += 1;
                 p.state = next;
                 blank = b;

@@ -1,13 +1,13 @@
 use Rattle.token.proofs.Laws.{next_less}
 use Rattle.pass.proofs.Laws.{pass_start, pass_asks, pass_end, pass_refuse, pass_cut, pass_turn, pass_go, pass_stores, pass_adds, pass_emit}
 use Rattle.pass.proofs.read_pass.Goals as goal
-use Rattle.pass.proofs.read_pass.Goals.{then-p-msg, else-p-msg+in-Cut, else-p-msg+in-Turn}
+use Rattle.pass.proofs.read_pass.Goals.{then-p-call, else-p-call+in-Cut, else-p-call+in-Turn}
 
 pub loop-p-init : goal.loop-p-init
 loop-p-init c = search pass_start
 
 pub step_at-step-requires : goal.step_at-step-requires
-step_at-step-requires c = pass_asks c.loop-p.invariant c.if-p-msg.false c.type_inv.file c.slice_end-end.ensures
+step_at-step-requires c = pass_asks c.loop-p.invariant c.if-p-call.false c.slice_end-end.ensures
 
 pub returns-in-Refuse : goal.returns-in-Refuse
 returns-in-Refuse c = search pass_refuse
@@ -32,8 +32,8 @@ loop-p-preserved c = pass_emit c.loop-p.invariant c.step_at-step.ensures c.in-Em
 
 pub returns : goal.returns
 returns c =
-    elim c.if-p-msg.branch [
-      | then-p-msg w ↦ rw (w.p-is, w.how-is) (pass_end c.loop-p.invariant w.if-p-msg.true)
-      | else-p-msg+in-Cut w ↦ rw (w.p-is, w.how-is) (pass_cut c.loop-p.invariant w.step_at-step.ensures w.in-Cut.is)
-      | else-p-msg+in-Turn w ↦ rw (w.p-is, w.how-is) (pass_turn c.loop-p.invariant w.step_at-step.ensures w.in-Turn.is)
+    elim c.if-p-call.branch [
+      | then-p-call w ↦ rw (w.p-is, w.how-is) (pass_end c.loop-p.invariant w.if-p-call.true)
+      | else-p-call+in-Cut w ↦ rw (w.p-is, w.how-is) (pass_cut c.loop-p.invariant w.step_at-step.ensures w.in-Cut.is)
+      | else-p-call+in-Turn w ↦ rw (w.p-is, w.how-is) (pass_turn c.loop-p.invariant w.step_at-step.ensures w.in-Turn.is)
     ]
