@@ -9,19 +9,14 @@ use mathlib.Core.List.{List, [], ◌∷◌, ◌++◌, map, append_assoc, append-
 use native.Mathlib.Omega.{arith}
 use lib.Dec.{leb, ltb, eqb}
 use borrow.Author.Tests.{leb-true}
-use lib.ListN.{length, set, take, drop, length-drop}
+use lib.ListN.{length, take, drop, length-drop}
 use mir.Val as Val
 use mir.Syntax.{w64}
 use lib.Seq.{length-take-le, take-take}
 use Rattle.token.specs.Token.{Slice, slice_len}
 use Rattle.token.proofs.Laws.{cuts_next, cuts_end, next_le, next_from, next_more}
 use Rattle.utf8.specs.Utf8.{codes}
-use Rattle.value.specs.declared.Place.{Place}
-use Rattle.value.specs.declared.Value.{Value}
 use Rattle.refusal.specs.declared.Refusal.{Refusal}
-use Rattle.reading.specs.declared.Said.{Said}
-use Rattle.reading.specs.declared.Said.TheVariants.{Is, Fails}
-use Rattle.reading.specs.Reading.{place, item_of}
 use Rattle.records.specs.declared.Config.{Config}
 use Rattle.layout.specs.declared.Rect.{Rect}
 use Rattle.layout.specs.declared.RenderState.{RenderState}
@@ -29,12 +24,11 @@ use Rattle.layout.specs.declared.Entry.{Entry}
 use Rattle.layout.specs.declared.Step.{Step}
 use Rattle.layout.specs.declared.Step.TheVariants.{Refuse, Go, Emit, Cut, Turn}
 use Rattle.layout.specs.Types.{Item, item_at}
-use Rattle.layout.specs.Read.{refusal_at, unit, rect_fits, fits, value_step, item_step, step}
+use Rattle.layout.specs.Read.{unit, rect_fits, fits, step}
 use Rattle.layout.proofs.PassLaws.{and_true}
 use Rattle.layout.proofs.Cover.{StepWithin, step_within}
 use Rattle.layout.proofs.Items.{item_within}
 use Rattle.page.specs.Scan.{items_from}
-use Rattle.std.proofs.lemmas.List.{length-set}
 use Rattle.rows.specs.declared.Row.{Row}
 use Rattle.rows.specs.Rows.{rows_of}
 use Rattle.rows.proofs.Laws.{rows_put}
@@ -43,9 +37,8 @@ use Rattle.sign.proofs.Answer.{Accepts, accepts}
 use Rattle.font.specs.Table.{font_numbered}
 use Rattle.counts.specs.Placing.{sum_of, fonts_in, capitals_in}
 use Rattle.counts.proofs.Laws.{looked_few}
-use Rattle.meter.specs.declared.RowLooked.{RowLooked}
 use Rattle.meter.specs.declared.call.Call.{Call}
-use Rattle.meter.specs.Gauges.{WidthsOf, CodesFit, part_codes, EntryIn, RowTaken}
+use Rattle.meter.specs.Gauges.{WidthsOf, CodesFit, part_codes, EntryIn}
 use Rattle.pass.specs.declared.How.{How}
 use Rattle.pass.specs.declared.How.TheVariants.{Cut as ByCut, Turn as ByTurn, End as ByEnd}
 use Rattle.pass.specs.declared.Held.{Held}
@@ -353,13 +346,6 @@ module _ {call : Call} {from : ℕ} {first : RenderState} {rows : List Row}
         holds = rw e tt;
       })
 
--- ---- a span's row
-
-pub stored_by_law : {call : Call} {e : Entry} {rows : List Row} {n : ℕ} {held' : Held} {y : RowLooked}
-    → RowTaken call e y → Holds call held' → Stored call e rows n held' (set rows n y.row) y.looked
-stored_by_law {rows = rows} {n = n} {y = y} p w =
-    record { row = ap (set rows n) p.is; looked = p.looked; holds = w; room = length-set rows n y.row }
-
 -- ---- the widths of a font
 
 font_same : (o : Option ℕ) (n : ℕ) → not (option_eq eqb o (Some n)) ≡ false → o ≡ Some n
@@ -371,27 +357,3 @@ pub held_same : (call : Call) (h : Held) (n : ℕ) {b : Bool} → Holds call h �
 held_same call h n k d e =
     let s : h.font ≡ Some n = font_same h.font n (sym d ∙ e) in
     (s, subst (λ (o : Option ℕ). IfSome o (λ m. WidthsOf call m h.widths)) s k)
-
--- ---- a step
-
--- of an item that is a value, and of one that fails
-module _ (c : Config) (st : RenderState) (blank : Bool) (p : Place) {item : Said} where
-  pub step_value : {v : Value} {r : Step} → item ≡ Is v → r ≡ value_step c st blank p v → r ≡ item_step c st blank p item
-  step_value q e = rw q e
-
-  pub step_fails : {n : ℕ} → item ≡ Fails n → Refuse (refusal_at p n) ≡ item_step c st blank p item
-  step_fails q = rw q
-
-step_said : (c : Config) (st : RenderState) (blank : Bool) (at n : ℕ) (l : List ℕ) (x : Said) (t : Step)
-    → x ≡ item_of c.long_times at l → n ≡ length l → t ≡ item_step c st blank (place at n) x → t ≡ step_at c st blank at l
-unfolding step_at step
-step_said c st blank at n l x t p q r =
-    r ∙ ap (λ (k : ℕ). item_step c st blank (place at k) x) q ∙ ap (item_step c st blank (place at (length l))) p
-
-pub step_is : {call : Call} {st : RenderState} {blank : Bool} {at end : ℕ} {x : Said} {t : Step} → Sliced call at end
-    → x ≡ item_of call.table.config.long_times at (take (end - at) (drop at call.msg.now))
-    → t ≡ item_step call.table.config st blank (place at (length (take (end - at) (drop at call.msg.now)))) x
-    → Steps call st blank at end t
-step_is {call} {st} {blank} {at} {end} {x} {t} h p r =
-    let s : List ℕ = take (end - at) (drop at call.msg.now) in
-    record { more = h.more; next = h.next; does = step_said call.table.config st blank at (length s) s x t p refl r }

@@ -72,6 +72,7 @@ fn step_by(c: Config, st: RenderState, blank: bool, p: Place, item: Said) -> Ste
 }
 
 // What the slice from a place to its end does.
+#[tactic(auto, unfolding(crate::specs::Pass::step_at, layout::specs::Read::step))]
 fn step_at(call: &Call, at: usize, end: usize, st: RenderState, blank: bool) -> Step
     requires { Sliced call.now at end }
     ensures { Steps call.now st blank at end result }
