@@ -284,7 +284,7 @@ module _ {call : Call} {from : ℕ} {first : RenderState} {rows₀ rows : List R
       narrow k = spoken_narrow c.long_times at bytes x spoke.2.spoken k
 
       pass_reads : EntryIn call x
-      unfolding part_codes bytes
+      unfolding bytes
       pass_reads =
           record {
             inside = omega (arith, starts, shorter, past, more);
