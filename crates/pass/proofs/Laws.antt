@@ -38,7 +38,7 @@ use Rattle.font.specs.Table.{font_numbered}
 use Rattle.counts.specs.Placing.{sum_of, fonts_in, capitals_in}
 use Rattle.counts.proofs.Laws.{looked_few}
 use Rattle.meter.specs.declared.call.Call.{Call}
-use Rattle.meter.specs.Gauges.{WidthsOf, CodesFit, part_codes, EntryIn}
+use Rattle.meter.specs.Gauges.{WidthsOf, CodesFit, EntryIn}
 use Rattle.pass.specs.declared.How.{How}
 use Rattle.pass.specs.declared.How.TheVariants.{Cut as ByCut, Turn as ByTurn, End as ByEnd}
 use Rattle.pass.specs.declared.Held.{Held}
