@@ -41,7 +41,6 @@ use Rattle.rows.specs.declared.Gauge.{Gauge}
 use Rattle.meter.specs.Opened.{AcceptedTable}
 use Rattle.meter.specs.Gauges.{meter_in, FontWidths, WidthsOf, CodesFit, CodeFits, WidthFound, EntryIn, part_codes, font_at, version_fault, missing_fault, gauge_for, GaugedIn, GaugedBy}
 use Rattle.meter.specs.declared.call.Call.{Call}
-use Rattle.meter.specs.declared.Gauged.{Gauged}
 
 -- ---- widths
 
@@ -145,7 +144,7 @@ module _ (call : Call) (e : Entry) {f : FontFound} (p : f ≡ entry_numbered e.s
   opened = accepts call.file.now call.table call.opened.0 call.bytes call.opened.1
 
   -- the gauge of a span in the font that was found, or in none
-  gauge_found : (o : Option Font) (g : Gauged) → font_numbered e.state.font (fonts_in (sign_file call.file.now)) ≡ o → GaugedIn call e o g → GaugedBy call e g
+  gauge_found : (o : Option Font) (g : Gauge × ℕ) → font_numbered e.state.font (fonts_in (sign_file call.file.now)) ≡ o → GaugedIn call e o g → GaugedBy call e g
   unfolding meter_in meter_of
   gauge_found o g h q =
       let c : call.table.config.capitals ≡ capitals_in (sign_file call.file.now) = sym (ap capitals_in opened.is) in
@@ -158,10 +157,10 @@ module _ (call : Call) (e : Entry) {f : FontFound} (p : f ≡ entry_numbered e.s
             ∙ ap (looked_in (capitals_in (sign_file call.file.now)) (chars_of call.msg.now e)) (sym h);
       }
 
-  pub gauge_entry : {g : Gauged} (x : FontEntry) → f ≡ EntryIs x → GaugedIn call e (some (font_at call.file.now x)) g → GaugedBy call e g
+  pub gauge_entry : {g : Gauge × ℕ} (x : FontEntry) → f ≡ EntryIs x → GaugedIn call e (some (font_at call.file.now x)) g → GaugedBy call e g
   gauge_entry {g} x d q = gauge_found (some (font_at call.file.now x)) g (entry_font call.file.now call.table call.bytes call.opened e.state.font f p x d) q
 
-  pub gauge_absent : {g : Gauge} → f ≡ NoEntry → g ≡ gauge_for [] e false none → GaugedBy call e (record { gauge = g; looked = 0 })
+  pub gauge_absent : {g : Gauge} → f ≡ NoEntry → g ≡ gauge_for [] e false none → GaugedBy call e (g, 0)
   gauge_absent d q =
       gauge_found none _ (entry_none call.file.now call.table call.bytes call.opened e.state.font f p d)
       (record { is = q ∙ sym (gauge_none call.msg.now e call.table.config.capitals); looked = refl })

@@ -22,9 +22,8 @@ use Rattle.counts.specs.Placing.{fonts_in, capitals_in, looked_in}
 use Rattle.rows.specs.Measured.{fault_in as fault_back, gauge_of, row_of}
 use Rattle.rows.specs.declared.Fault.{Fault}
 use Rattle.rows.specs.declared.Gauge.{Gauge}
+use Rattle.rows.specs.declared.Row.{Row}
 use Rattle.meter.specs.declared.call.Call.{Call}
-use Rattle.meter.specs.declared.Gauged.{Gauged}
-use Rattle.meter.specs.declared.RowLooked.{RowLooked}
 
 unfoldable pub meter_in : List ℕ → List ℕ → Meter
 meter_in file msg = meter_of msg (capitals_in (sign_file file)) (fonts_in (sign_file file))
@@ -99,20 +98,20 @@ gauge_for msg e capitals o =
     }
 
 -- the same, and how many characters its measure looked up
-pub record GaugedIn (call : Call) (e : Entry) (o : MathOption Font) (r : Gauged) : Type 0 where
-  pub is : r.gauge ≡ gauge_for call.msg.now e call.table.config.capitals o
-  pub looked : r.looked ≡ looked_in call.table.config.capitals (chars_of call.msg.now e) o
+pub record GaugedIn (call : Call) (e : Entry) (o : MathOption Font) (r : Gauge × ℕ) : Type 0 where
+  pub is : r.0 ≡ gauge_for call.msg.now e call.table.config.capitals o
+  pub looked : r.1 ≡ looked_in call.table.config.capitals (chars_of call.msg.now e) o
 
 -- how many characters the measure of a span looks up, in the fonts of a sign file
 abbrev pub looked_by : List ℕ → List ℕ → Entry → ℕ
 looked_by file msg e = looked_in (capitals_in (sign_file file)) (chars_of msg e) (font_numbered e.state.font (fonts_in (sign_file file)))
 
 -- what the fonts of a sign file say of a span
-pub record GaugedBy (call : Call) (e : Entry) (r : Gauged) : Type 0 where
-  pub is : r.gauge ≡ gauge_of (meter_in call.file.now call.msg.now) e
-  pub looked : r.looked ≡ looked_by call.file.now call.msg.now e
+pub record GaugedBy (call : Call) (e : Entry) (r : Gauge × ℕ) : Type 0 where
+  pub is : r.0 ≡ gauge_of (meter_in call.file.now call.msg.now) e
+  pub looked : r.1 ≡ looked_by call.file.now call.msg.now e
 
 -- its row
-pub record RowTaken (call : Call) (e : Entry) (r : RowLooked) : Type 0 where
-  pub is : r.row ≡ row_of (meter_in call.file.now call.msg.now) e
-  pub looked : r.looked ≡ looked_by call.file.now call.msg.now e
+pub record RowTaken (call : Call) (e : Entry) (r : Row × ℕ) : Type 0 where
+  pub is : r.0 ≡ row_of (meter_in call.file.now call.msg.now) e
+  pub looked : r.1 ≡ looked_by call.file.now call.msg.now e

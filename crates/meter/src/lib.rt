@@ -98,16 +98,9 @@ fn width_of(m: Measure) -> u32
     }
 }
 
-// What the fonts say of a span, and how many characters its measure looked up.
-#[derive(Clone, Copy)]
-pub struct Gauged {
-    pub gauge: Gauge,
-    pub looked: usize,
-}
-
-// A span in a font.
+// What the fonts say of a span in a font, and how many characters its measure looked up.
 #[tactic(auto, using(crate::proofs::Laws::fault_parts), unfolding(layout::specs::Fonts::measure_in, font::specs::Character::letters_at))]
-fn gauge_in(call: &Call, f: FontEntry, widths: &[u16], e: Entry) -> Gauged
+fn gauge_in(call: &Call, f: FontEntry, widths: &[u16], e: Entry) -> (Gauge, usize)
     requires widths { FontWidths call.now f widths.now }
     requires entry_in { EntryIn call.now e }
     ensures { GaugedIn call.now e (some (font_at call.now.file.now f)) result }
@@ -123,10 +116,7 @@ fn gauge_in(call: &Call, f: FontEntry, widths: &[u16], e: Entry) -> Gauged
         width: width_of(m),
         fault: version_fault(st.version, f.version_id).or(missing_fault(m)),
     };
-    Gauged {
-        gauge,
-        looked: looked.count,
-    }
+    (gauge, looked.count)
 }
 
 // A span whose font is not defined.
@@ -157,37 +147,24 @@ pub fn widths_of(call: &Call, font: u8) -> [u16; 256]
     widths
 }
 
-// What the fonts say of a span: widths has those of its font.
-fn gauge_of(call: &Call, widths: &[u16], e: Entry) -> Gauged
+// The same of any span: widths has those of its font.
+fn gauge_of(call: &Call, widths: &[u16], e: Entry) -> (Gauge, usize)
     requires entry_in { EntryIn call.now e }
     requires widths_of { WidthsOf call.now e.state.font widths.now }
     ensures { GaugedBy call.now e result }
 {
     match font::font_numbered(call.table, e.state.font) {
         FontFound::Entry(f) => gauge_in(call, f, widths, e),
-        FontFound::Absent => Gauged {
-            gauge: no_font(e),
-            looked: 0,
-        },
+        FontFound::Absent => (no_font(e), 0),
     }
 }
 
-// A span's row, and how many characters its measure looked up.
-#[derive(Clone, Copy)]
-pub struct RowLooked {
-    pub row: Row,
-    pub looked: usize,
-}
-
-// A span's row, for which it is measured once: widths has those of its font.
-pub fn row_of(call: &Call, widths: &[u16; 256], e: Entry) -> RowLooked
+// A span's row, and how many characters its measure looked up: it is measured once. widths has those of its font.
+pub fn row_of(call: &Call, widths: &[u16; 256], e: Entry) -> (Row, usize)
     requires entry_in { EntryIn call.now e }
     requires widths_of { WidthsOf call.now e.state.font widths.now }
     ensures { RowTaken call.now e result }
 {
-    let g = gauge_of(call, widths, e);
-    RowLooked {
-        row: rows::row_by(e, g.gauge),
-        looked: g.looked,
-    }
+    let (gauge, looked) = gauge_of(call, widths, e);
+    (rows::row_by(e, gauge), looked)
 }

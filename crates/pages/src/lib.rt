@@ -14,7 +14,7 @@ use records::Config;
 use refusal::{OptRefusal, Refusal};
 use rows::Row;
 
-// The passes of a page beside its first one.
+// As many passes as a page can have.
 const MAX_TEXT_RECTANGLES: usize = 50;
 
 // A page that is done: whether [np] ended it, and how far it came: the place past that, its counts, and the state of a page after it.
@@ -34,7 +34,8 @@ pub struct Pages {
     pub page_state: PageState,
 }
 
-// An answer: on or off, its duration, the count of its records and that of the characters looked up, which are 0 if it is off.
+// An answer: on or off, its duration, the count of its records and that of the characters looked up, which are 0 if it is off. One struct for
+// both: a caller adds up the counts of either alike.
 #[derive(Clone, Copy)]
 pub struct PageShown {
     pub on: bool,
@@ -200,10 +201,7 @@ impl Pages {
         ensures { NextRead call.now self.old rows.old out.old self.new rows.new out.new result }
     {
         match self.page_state {
-            PageState::On(_) => {
-                let x = self.render_on_page(call, rows, out)?;
-                Ok(Some(x))
-            }
+            PageState::On(_) => self.render_on_page(call, rows, out).map(Some),
             PageState::Off(_) => Ok(Some(self.render_off_page())),
             PageState::Done => Ok(None),
         }

@@ -89,7 +89,7 @@ fn step_at(call: &Call, at: usize, end: usize, st: RenderState, blank: bool) -> 
 
 // The font that was measured in last, if any, and its widths.
 #[derive(Drop)]
-pub struct Held {
+struct Held {
     font: Option<u8>,
     widths: [u16; 256],
 }
@@ -122,9 +122,9 @@ fn store(call: &Call, e: Entry, held: &mut Held, rows: &mut [Row], n: usize) -> 
     ensures { Stored call.now e rows.old n held.new rows.new result }
 {
     held.keep(call, e.state.font);
-    let r = meter::row_of(call, &held.widths, e);
-    rows[n] = r.row;
-    r.looked
+    let (row, looked) = meter::row_of(call, &held.widths, e);
+    rows[n] = row;
+    looked
 }
 
 // The pass from a place on. Its spans' rows stand first in the slice.
