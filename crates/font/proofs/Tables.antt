@@ -1,7 +1,6 @@
 -- A font by its number, and what holds of one that is found.
 use Prim.Native.Nat.{ℕ, ◌-◌}
 use mathlib.Core.Path.{◌≡◌, refl, sym, ◌∙◌, ap, subst}
-use mathlib.Core.Option.{some}
 use mathlib.Core.List.{List, [], ◌∷◌, map}
 use mathlib.Core.Bool.{Bool, true, false, cond}
 use lib.Dec.{eqb}
@@ -37,7 +36,7 @@ numbered_is n [] = refl
 numbered_is n (f ∷ fs) = go (eqb f.number n) (numbered_is n fs)
   where
     go : (t : Bool) → entry_numbered n (map entry_of fs) ≡ entry_found (font_numbered n fs)
-        → pick t (Some (entry_of f)) (entry_numbered n (map entry_of fs)) ≡ entry_found (pick t (some f) (font_numbered n fs))
+        → pick t (Some (entry_of f)) (entry_numbered n (map entry_of fs)) ≡ entry_found (pick t (Some f) (font_numbered n fs))
     go true e = refl
     go false e = e
 
@@ -52,12 +51,12 @@ table_holds file r a n = rw list (numbered_is n a.fs)
 
 -- a font that is found has the number, and what holds of each font
 module _ (P : Font → Type 0) (n : ℕ) (f : Font) where
-  pub named_good : (fs : List Font) → Each P fs → font_numbered n fs ≡ some f → (f.number ≡ n) × P f
+  pub named_good : (fs : List Font) → Each P fs → font_numbered n fs ≡ Some f → (f.number ≡ n) × P f
   named_good [] each_none e = cc
   named_good (g ∷ fs) (each_more p ps) e = go (eqb g.number n) refl (named_good fs ps) e
     where
-      go : (t : Bool) → eqb g.number n ≡ t → (font_numbered n fs ≡ some f → (f.number ≡ n) × P f)
-          → pick t (some g) (font_numbered n fs) ≡ some f → (f.number ≡ n) × P f
+      go : (t : Bool) → eqb g.number n ≡ t → (font_numbered n fs ≡ Some f → (f.number ≡ n) × P f)
+          → pick t (Some g) (font_numbered n fs) ≡ Some f → (f.number ≡ n) × P f
       go true a k d =
           let same : g ≡ f = cc in
           (ap (λ (x : Font). x.number) (sym same) ∙ eqb-true g.number n a, subst P same p)

@@ -3,7 +3,6 @@ use Prim.Native.Nat.{ℕ, zero, suc, ◌+◌, ◌≤◌, ◌<◌}
 use native.Mathlib.Omega.{arith}
 use mathlib.Core.Path.{◌≡◌, refl, sym, ap, ◌∙◌}
 use mathlib.Core.Bool.{Bool, true, false, not}
-use mathlib.Core.Option.{Option as Maybe, none, some}
 use Rattle.std.specs.Prelude.{Option, Some, None, Result, Ok, Err}
 use mathlib.Core.List.{List, [], ◌∷◌, ◌++◌}
 use lib.Dec.{eqb}
@@ -30,8 +29,7 @@ use Rattle.layout.specs.declared.Scan.{Scan}
 use Rattle.layout.specs.Types.{Item, items, Board}
 use Rattle.refusal.specs.Refusals.{refusal}
 use Rattle.font.specs.Table.{font_numbered}
-use Rattle.font.specs.declared.Measure.{Measure}
-use Rattle.font.specs.declared.Measure.TheVariants.{Width, Missing}
+use Rattle.font.specs.Measure.{Measure}
 use Rattle.layout.specs.Fonts.{fault, version_fault, missing, measure_in, font_fault_in, char_fault_after, fault_in, meter_of, board_of}
 use Rattle.layout.specs.Placing.{or_else, unless, first_fault, group, page, fault_at, span_fault, goes_back, back_fault, pass_fault, pass_records}
 use Rattle.layout.specs.Read.{mark_item, scan_by, scan, Event, pass, close, stop, opening, events}
@@ -70,22 +68,22 @@ version_late (Some v) f = go (eqb v f.version)
     go false = faulty {x = fault 11 0} (omega arith)
 
 missing_late : (m : Measure) → Late (missing m)
-missing_late (Width w) = fine
-missing_late (Missing c) = faulty {x = fault 12 c} (omega arith)
+missing_late (Ok w) = fine
+missing_late (Err m) = faulty {x = fault 12 m.code} (omega arith)
 
 module _ (msg : List ℕ) (e : Entry) where
-  font_late : (o : Maybe Font) → Late (font_fault_in msg e o)
-  font_late none = faulty {x = fault 10 e.state.font} (omega arith)
-  font_late (some f) = version_late e.state.version f
+  font_late : (o : Option Font) → Late (font_fault_in msg e o)
+  font_late None = faulty {x = fault 10 e.state.font} (omega arith)
+  font_late (Some f) = version_late e.state.version f
 
   module _ (capitals : Bool) where
     char_late : (x : Option Fault) (f : Font) → Late x → Late (char_fault_after msg e capitals x f)
     char_late None f h = missing_late (measure_in msg e capitals f)
     char_late (Some x) f h = h
 
-    fault_late : (o : Maybe Font) → Late (fault_in msg e capitals o)
-    fault_late none = faulty {x = fault 10 e.state.font} (omega arith)
-    fault_late (some f) = char_late (version_fault e.state.version f) f (version_late e.state.version f)
+    fault_late : (o : Option Font) → Late (fault_in msg e capitals o)
+    fault_late None = faulty {x = fault 10 e.state.font} (omega arith)
+    fault_late (Some f) = char_late (version_fault e.state.version f) f (version_late e.state.version f)
 
 -- of every span
 record LateFaults (s : Board) : Type 0 where

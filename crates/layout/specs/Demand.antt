@@ -1,6 +1,5 @@
 -- Demand 3 (quoted in docs/DEMANDS.md), with document 01, "What demand 3 compares": what holds of a whole listing that no refusal ends.
-use Rattle.std.specs.Prelude.{ℕ, zero, suc, ◌+◌, ◌≤◌, ◌<◌, ◌%◌, ◌≡◌, ◌⊎◌, List, [], ◌∷◌, ◌++◌, map, leb, length, take, Option, Result, Ok, Err, unwrap_or}
-use Rattle.std.proofs.Math.Option.{some}
+use Rattle.std.specs.Prelude.{ℕ, zero, suc, ◌+◌, ◌≤◌, ◌<◌, ◌%◌, ◌≡◌, ◌⊎◌, List, [], ◌∷◌, ◌++◌, map, leb, length, take, Option, Some, Result, Ok, Err, unwrap_or}
 use Rattle.base.specs.Pick.{pick}
 use Rattle.token.specs.declared.Shape.{Shape}
 use Rattle.token.specs.declared.Shape.TheVariants.{Bracket, Tag, Stray, Text as TextShape}
@@ -20,7 +19,6 @@ use Rattle.layout.specs.declared.Entry.{Entry}
 use Rattle.layout.specs.Types.{Item, item_at, items, Board}
 use Rattle.font.specs.Table.{font_numbered}
 use Rattle.font.specs.Character.{letters_of}
-use Rattle.font.specs.declared.Measure.TheVariants.{Width}
 use Rattle.font.specs.Measure.{text_width}
 use Rattle.layout.specs.Fonts.{chars_of, board_of}
 use Rattle.layout.specs.Placing.{group, due, record_of, pass_records}
@@ -213,9 +211,9 @@ pub record Tells (r : Rect) (e : Entry) (q : Span) : Type 0 where
 -- capitals that stand in for them (document 02, A4)
 pub record Measured (c : Config) (msg : List ℕ) (fs : List SignFont) (e : Entry) (q : Span) : Type 0 where
   pub font : SignFont
-  pub found : font_numbered e.state.font fs ≡ some font
+  pub found : font_numbered e.state.font fs ≡ Some font
   pub width : text_width (letters_of c.capitals font.characters) (unwrap_or e.state.char_spacing font.char_spacing) (chars_of msg e)
-      ≡ Width q.width
+      ≡ Ok q.width
   pub height : q.height ≡ font.height
 
 -- "the character height is 0 or divides every font height"
