@@ -12,7 +12,8 @@ use Rattle.std.specs.Prelude.{Option as Opt}
 use Rattle.std.specs.Option.{option_or}
 use borrow.Rule.Slice.PartMut.{put_mid}
 use Rattle.std.proofs.lemmas.Slice.{take-put_mid}
-use Rattle.std.proofs.lemmas.List.{length-map, length-drop, at_drop_more, at_drop_all, take_more, take_more_set, take_all, get_or-take, length-take-le, length-set, map-append, take-append-drop, nil_from_length}
+use Rattle.std.proofs.lemmas.List.{length-map, length-drop, length-take-le, length-set, at_drop_more, at_drop_all, take_more, take_more_set, take_all}
+use Rattle.std.proofs.lemmas.List.{get_or-take, map-append, take-append-drop, nil_from_length}
 use borrow.Author.Tests.{le-ltb, le-leb, lt-leb, ltb-true}
 use Rattle.base.specs.Pick.{pick}
 use Rattle.refusal.specs.declared.Refusal.{Refusal}
@@ -39,7 +40,7 @@ use Rattle.place.specs.declared.shared.Pass.{Pass}
 use Rattle.place.specs.Placed.{goes_back_from, back_rows, stands_at, record_by, refusal_of, fault_at, base_with, record_with, fault_with}
 use Rattle.place.specs.Placed.{placed_by, placed_with, across_fault, fault_end, Crossed, SpanAsked, SpanPlaced, above_at, below_at}
 use Rattle.place.specs.Placed.{record_at, span_fault_at, rows_fault, rows_records, Placeable, LinesMade, RowByRow, PassPlaced}
-use Rattle.place.specs.Groups.{sums_at, end_at, Marked, Ready, PlacedAcross, DownAsked, PlacedDown}
+use Rattle.place.specs.Groups.{sums_at, end_at, Marked, Ready, PlacedAcross, PlacedDown}
 use Rattle.place.proofs.Groups.{marked_as}
 
 -- ---- `check_justification`: the rows from i on, after the row r
@@ -234,25 +235,8 @@ pub record Placing (p : Pass) (m : ℕ) (out : List Span) (page : PageLines) (i 
 own_lines : {ch : ℕ} {rows : List Row} {just : ℕ} {page : PageLines} → PageHeights ch rows just page → PageHeights ch rows page.just page
 own_lines {ch} {rows} {just} {page} h = subst (λ (j : ℕ). PageHeights ch rows j page) (sym h.page) h
 
-pub placing_start : {p : Pass} {m : ℕ} {out : List Span} {just : ℕ} {page : PageLines} → DownAsked p out m
-    → PageHeights p.config.char_height p.rows.now just page → Placing p m out page 0
-placing_start a h =
-    record { few = a.few; room = a.room; lines = own_lines h; faults = refl; records = refl; marked = λ j q k. a.marked j k }
-
 module _ {p : Pass} {m : ℕ} {out : List Span} {page : PageLines} {i : ℕ} (z : Placing p m out page i) where
-  pub placing_end : i ≡ m → PlacedDown p m out (Ok tt)
-  placing_end e =
-      let f : Row → Option Refusal = span_fault_at p.config p.rect p.rows.now in
-      record {
-        fault = sym (at_drop_all (first_fault f) (take m p.rows.now) i (omega (arith, length-take-le m p.rows.now z.few))) ∙ z.faults;
-        written = λ _. rw e at z.records;
-        room = z.room;
-      }
-
   module _ (more : i < m) where
-    pub mark_some : 0 < mark_at out i
-    mark_some = (z.marked i (omega arith) more).some
-
     -- r is the row, v its heights; the lines of page' are its own
     module _ {r : Row} (er : r ≡ row_at p.rows.now i) {page' : PageLines} (h : PageHeights p.config.char_height p.rows.now r.just_page page')
         (fits : r.line < 256) {v : Heights} (ev : v ≡ heights_in page' r.line) where
@@ -317,7 +301,8 @@ module _ {p : Pass} {m : ℕ} {out : List Span} {page : PageLines} {i : ℕ} (z 
                   ∙ ap (λ (x : Row). done ++ (record_at p.config p.rect p.rows.now x ∷ [])) er
                   ∙ sym (map-append (record_at p.config p.rect p.rows.now) (take i p.rows.now) (row_at p.rows.now i ∷ []))
                   ∙ ap (map (record_at p.config p.rect p.rows.now)) (sym (take_more p.rows.now i blank_row (omega (arith, z.few))));
-              marked = λ j d g. marked_as (ap (λ (y : Span). y.x) (sym (span_stays out i s (set out i s) refl j (λ x. omega arith)))) (z.marked j (omega arith) g);
+              marked = λ j d g.
+                  marked_as (ap (λ (y : Span). y.x) (sym (span_stays out i s (set out i s) refl j (λ x. omega arith)))) (z.marked j (omega arith) g);
             }
 
 -- ---- `place_rows`
@@ -343,9 +328,6 @@ unfolding or_else
 faults_split f [] ys = refl
 faults_split f (x ∷ xs) ys = ap (or_else (f x)) (faults_split f xs ys) ∙ sym (else_assoc (f x) (first_fault f xs) (first_fault f ys))
 
-pub down_asks : {p : Pass} {out : List Span} {a : Across} → PlacedAcross p out a → DownAsked p out a.count
-down_asks x = record { few = x.few; room = x.room; marked = x.marked }
-
 faults_at : Pass → Row → Option Refusal
 faults_at p = span_fault_at p.config p.rect p.rows.now
 
@@ -358,7 +340,8 @@ module _ {p : Pass} {out : List Span} {a : Across} (x : PlacedAcross p out a) wh
 
   pub rows_refused : {out' : List Span} {f : Refusal} → PlacedDown p a.count out' (Err f) → RowByRow p out' (Err f)
   unfolding faults_at
-  rows_refused {f = f} y = record { fault = sym (some_first f _ (first_fault (faults_at p) (drop a.count p.rows.now)) (sym y.fault)) ∙ sym split; written = λ g. cc }
+  rows_refused {f = f} y =
+      record { fault = sym (some_first f _ (first_fault (faults_at p) (drop a.count p.rows.now)) (sym y.fault)) ∙ sym split; written = λ g. cc }
 
   module _ {out' : List Span} (y : PlacedDown p a.count out' (Ok tt)) where
     after : first_fault (faults_at p) (drop a.count p.rows.now) ≡ first_fault (faults_at p) p.rows.now

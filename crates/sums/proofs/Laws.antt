@@ -112,10 +112,12 @@ module _ (m : Meter) (p : RowTells m) where
       step false ih = ih o q k
 
   -- what stands before a span in its group, what from there on, and the group's first fault
-  pub sums_before : (es : List Entry) (e : Entry) → (sums (row_of m e) none_yet (map (row_of m) es)).before ≡ sum_before m e.state.span none (select (same e) es)
+  pub sums_before : (es : List Entry) (e : Entry)
+      → (sums (row_of m e) none_yet (map (row_of m) es)).before ≡ sum_before m e.state.span none (select (same e) es)
   sums_before es e = omega (arith, (agree e none_yet none es refl).before)
 
-  pub sums_after_law : (es : List Entry) (e : Entry) → (sums (row_of m e) none_yet (map (row_of m) es)).after ≡ sum_after m e.state.span none (select (same e) es)
+  pub sums_after_law : (es : List Entry) (e : Entry)
+      → (sums (row_of m e) none_yet (map (row_of m) es)).after ≡ sum_after m e.state.span none (select (same e) es)
   sums_after_law es e = omega (arith, (agree e none_yet none es refl).after)
 
   pub sums_fault : (es : List Entry) (e : Entry)

@@ -142,7 +142,7 @@ fn enter(table: &mut [u64; 257], r: &Row, o: Sums, e: &Row) -> Sums
     o
 }
 
-// The table of the group of r, made in a table of zeros.
+// The table of the group of r, made in a table of zeros. The walk is that of `offset_horiz`: one fold for both would hand the table from row to row.
 pub fn gather(rows: &[Row], out: &[Span], heads: &[u16; 256], r: &Row, table: &mut [u64; 257])
     requires { Chained rows.now out.now heads.now × (table.old ≡ replicate 257 0) }
     ensures { TableOf rows.now r.now table.new }
