@@ -3,24 +3,22 @@ use Prim.Native.Nat.{ℕ, zero, suc, ◌+◌, ◌*◌, ◌≤◌}
 use mathlib.Core.Path.{◌≡◌, refl, sym, ◌∙◌, ap, subst}
 use mathlib.Core.Bool.{Bool, true, false}
 use mathlib.Core.List.{List, [], ◌∷◌}
-use Rattle.std.specs.Prelude.{Result, Ok, Err, IfOk, Option as Maybe, Some as There, None as Gone}
+use Rattle.std.specs.Prelude.{Result, Ok, Err, IfOk}
 use native.Mathlib.Omega.{arith}
 use borrow.Author.Tests.{lt-ltb}
 use lib.Dec.{ltb}
 use Rattle.token.specs.Token.{slices}
 use Rattle.base.specs.Pick.{pick}
 use Rattle.refusal.specs.declared.Refusal.{Refusal}
-use Rattle.records.specs.declared.Config.{Config}
 use Rattle.layout.specs.declared.RenderState.{RenderState}
 use Rattle.layout.specs.Types.{Item, items, Board}
-use Rattle.layout.specs.Read.{Scan, scan, stop_if, start, read, opening, events}
+use Rattle.layout.specs.Read.{Scan, scan, stop_if, read, opening, events}
 use Rattle.layout.specs.Listing.{Page, on, refused as refused_page, offs, walk, pages}
 use Rattle.refusal.specs.declared.OptRefusal.{OptRefusal}
 use Rattle.refusal.specs.declared.OptRefusal.TheVariants.{Some, None}
 use Rattle.page.specs.declared.PageScan.{PageScan}
 use Rattle.page.specs.declared.PageState.{PageState}
-use Rattle.page.specs.declared.PageState.TheVariants.{On as OnState, Off as OffState, Done}
-use Rattle.page.specs.State.{new_page as new_state, done_after, next_state}
+use Rattle.page.specs.State.{new_page as new_state, done_after}
 use Rattle.page.specs.Scan.{fault_is, told as scan_told, items_from}
 use Rattle.rows.specs.Rows.{spans_of}
 use Rattle.layout.specs.declared.Span.{Span}
@@ -29,8 +27,7 @@ use Rattle.meter.specs.declared.call.Call.{Call}
 use Rattle.pass.specs.Pass.{items_in}
 use Rattle.pages.specs.declared.PageDone.{PageDone}
 use Rattle.pages.specs.declared.Pages.{Pages}
-use Rattle.pages.specs.declared.PageShown.{PageShown}
-use Rattle.pages.specs.Pages.{board_of, looked_for, run, turned, page_told, PageInMessage, PageRendered, pages_at, state_after, off_shown, off_left, first_of, todo_by, todo, shown_page, on_told, InMessage, weight, Advances, NextAsked, OnRead, NextRead}
+use Rattle.pages.specs.Pages.{board_of, run, turned, page_told, PageInMessage, PageRendered, pages_at, state_after, first_of, todo, InMessage, weight, NextAsked, OnRead}
 use Rattle.pages.proofs.Laws.{whole_inside}
 
 -- ---- an on page
@@ -38,10 +35,6 @@ use Rattle.pages.proofs.Laws.{whole_inside}
 pub fault_none : (o : OptRefusal) → ((x : Refusal) → o ≡ Some x → ⊥) → o ≡ None
 fault_none None h = refl
 fault_none (Some x) h = absurd (h x refl)
-
--- nothing is looked up before its first pass
-pub none_looked : (file msg : List ℕ) (out : List Span) → 0 ≡ looked_for file msg out 0
-none_looked file msg out = refl
 
 -- q is the answer of the scan
 module _ (s : Board) (msg : List ℕ) (its : List Item) (a b : ℕ) (st : RenderState) (q : PageScan) (e : scan_told q ≡ scan s.config a b its) where
@@ -138,86 +131,7 @@ module _ {call : Call} {p : Pages} {rows : List Row} {out : List Span} (asked : 
           room = t.room;
         }
 
--- ---- the next answer
-
-module _ {call : Call} {p : Pages} {rows : List Row} {out : List Span} where
-  -- after an on page
-  module _ {p' : Pages} {rows' : List Row} {out' : List Span} {b : Bool} {r : Result PageShown Refusal} (q : p.page_state ≡ OnState b)
-      (h : OnRead call p rows out p' rows' out' r) where
-    -- so the next answer is
-    abbrev Tells : Result (Maybe PageShown) Refusal → Type 0
-    Tells = NextRead call p rows out p' rows' out'
-
-    abbrev sign : Board
-    sign = board_of call
-
-    on_ends : {u : Result PageShown Refusal} → r ≡ u → todo sign call.msg.now p ≡ on_told sign call.msg.now out' p' u
-    on_ends k = ap (todo_by sign call.msg.now p) q ∙ h.ends ∙ ap (on_told sign call.msg.now out' p') k
-
-    pub next_refused : {x : Refusal} → r ≡ Err x → Tells (Err x)
-    next_refused k = record { ends = on_ends k; next = tt; rowed = h.rowed; room = h.room }
-
-    pub next_shown : {x : PageShown} → r ≡ Ok x → Tells (Ok (There x))
-    next_shown {x} k =
-        record {
-          ends = on_ends k;
-          next =
-              subst (λ (w : ℕ). Advances call out' p.at w p' x) (sym (ap weight q))
-              (subst (λ (u : Result PageShown Refusal). IfOk u (Advances call out' p.at 2 p')) k h.next);
-          rowed = h.rowed;
-          room = h.room;
-        }
-
-module _ {call : Call} {p : Pages} {rows : List Row} {out : List Span} (z : NextAsked call p rows out) where
-  abbrev board : Board
-  board = board_of call
-
-  -- what an off page leaves
-  abbrev left : PageState → Pages
-  left x = pages_at p.at p.render_state p.on p.off (next_state x)
-
-  off_ends : (b : Bool) → todo_by board call.msg.now p (OffState b) ≡ shown_page out (off_shown p) ∷ todo board call.msg.now (left (OffState b))
-  off_ends true = refl
-  off_ends false = refl
-
-  off_advances : (b : Bool) → Advances call out p.at (weight (OffState b)) (left (OffState b)) (off_shown p)
-  off_advances true =
-      record {
-        stands = record { within = z.stands.within; inside = z.stands.inside };
-        less = omega arith;
-        few = omega arith;
-        looked = refl;
-        short = omega arith;
-      }
-  off_advances false =
-      record {
-        stands = record { within = z.stands.within; inside = z.stands.inside };
-        less = omega arith;
-        few = omega arith;
-        looked = refl;
-        short = omega arith;
-      }
-
-  pub next_off : {b : Bool} {p' : Pages} {x : PageShown} → p.page_state ≡ OffState b → p' ≡ off_left p → x ≡ off_shown p
-      → NextRead call p rows out p' rows out (Ok (There x))
-  next_off {b} q k w =
-      rw (k, w)
-      (record {
-        ends =
-            ap (todo_by board call.msg.now p) q ∙ off_ends b
-            ∙ ap (λ (x : PageState). shown_page out (off_shown p) ∷ todo board call.msg.now (left x)) (sym q);
-        next = subst (λ (x : PageState). Advances call out p.at (weight x) (left x) (off_shown p)) (sym q) (off_advances b);
-        rowed = refl;
-        room = refl;
-      })
-
-  pub next_done : p.page_state ≡ Done → NextRead call p rows out p rows out (Ok Gone)
-  next_done q = record { ends = ap (todo_by board call.msg.now p) q; next = tt; rowed = refl; room = refl }
-
 -- ---- before the first answer
-
-pub first_is : (c : Config) {st : RenderState} {a b : ℕ} → st ≡ start c → a ≡ c.on_time → b ≡ c.off_time → pages_at 0 st a b (OnState true) ≡ first_of c
-first_is c p q r = rw (p, q, r)
 
 pub pages_todo : (s : Board) (msg : List ℕ) → pages s (items s.config msg) ≡ todo s msg (first_of s.config)
 unfolding pages events opening turned items items_from slices

@@ -1,13 +1,9 @@
-use borrow.Author.Rules.{rules}
 use Rattle.std.proofs.lemmas.Result.{err_from_is_err_and}
-use Rattle.pages.proofs.Answers.{none_looked, on_stop, fault_none, on_refuse, on_page}
+use Rattle.pages.proofs.Answers.{on_stop, fault_none, on_refuse, on_page}
 use Rattle.pages.proofs.Pages.render_on_page.Goals as goal
 
 pub returns-in-Some : goal.returns-in-Some
 returns-in-Some c = on_stop c.requires c.scan-s.result c.scan-s.ensures c.in-Some.is
-
-pub render_page-requires : goal.render_page-requires
-render_page-requires c = search (none_looked, rules)
 
 pub returns-in_err-d : goal.returns-in_err-d
 returns-in_err-d c =
