@@ -1,7 +1,7 @@
 -- The scan's ways on and out.
 use Prim.Native.Nat.{ℕ, ◌+◌, ◌-◌, ◌≤◌, ◌<◌}
 use mathlib.Core.Path.{◌≡◌, sym, ◌∙◌, ap}
-use mathlib.Core.List.{List, ◌∷◌, map}
+use mathlib.Core.List.{List, map}
 use lib.ListN.{length, take, drop}
 use Rattle.std.specs.Prelude.{None, Result, Ok, Err, unwrap_or}
 use Rattle.std.specs.declared.ops.ControlFlow.{ControlFlow}
@@ -9,7 +9,7 @@ use Rattle.std.specs.declared.ops.ControlFlow.TheVariants.{Continue, Break}
 use Rattle.token.specs.Token.{slice_len}
 use Rattle.token.proofs.Laws.{cuts_next, cuts_end, next_le, next_from, next_less}
 use Rattle.value.specs.declared.SyntaxError.{SyntaxError}
-use Rattle.reading.specs.Reading.{place, item_of}
+use Rattle.reading.specs.Reading.{place}
 use Rattle.records.specs.declared.Config.{Config}
 use Rattle.layout.specs.declared.Mark.{Mark}
 use Rattle.layout.specs.declared.Mark.TheVariants.{Plain, Ends, Timed}
