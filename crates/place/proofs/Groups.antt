@@ -6,15 +6,14 @@ use mathlib.Core.List.{List}
 use native.Mathlib.Omega.{arith}
 use lib.Dec.{ltb, eqb}
 use lib.ListN.{length, get_or}
-use Rattle.std.specs.Prelude.{Result, Ok, Err, Some, None}
-use Rattle.std.specs.Prelude.{Option as Opt}
+use Rattle.std.specs.Prelude.{Option, Some, None, Result, Ok, Err}
 use Rattle.std.specs.Option.{option_or}
 use borrow.Author.Tests.{ltb-false, eqb-true, eqb-false}
 use Rattle.base.specs.Pick.{pick}
 use Rattle.refusal.specs.declared.Refusal.{Refusal}
 use Rattle.layout.specs.declared.Rect.{Rect}
 use Rattle.layout.specs.declared.Span.{Span}
-use Rattle.rows.specs.declared.Fault.{Fault}
+use Rattle.layout.specs.declared.Fault.{Fault}
 use Rattle.rows.specs.declared.Row.{Row}
 use Rattle.rows.specs.Rows.{row_at, link_at, mark_at, MarkPut}
 use Rattle.rows.proofs.Laws.{mark_put, mark_stays, links_stay}
@@ -183,7 +182,7 @@ module _ {p : Pass} {out₀ : List Span} {r : Row} {total : ℕ} {table : List �
 across_fits : (q : Rect) (r : Row) (o : Sums) → fault_end r (across_fault q o) ≡ Ok tt → (o.fault ≡ None) × (o.before + o.after ≤ q.width)
 across_fits q r o h = step o.fault (ltb q.width (o.before + o.after)) refl refl h
   where
-    step : (f : Opt Fault) (u : Bool) → o.fault ≡ f → ltb q.width (o.before + o.after) ≡ u
+    step : (f : Option Fault) (u : Bool) → o.fault ≡ f → ltb q.width (o.before + o.after) ≡ u
         → fault_end r (option_or f (pick u (Some (record { number = 13; detail = 0 })) None)) ≡ Ok tt
         → (o.fault ≡ None) × (o.before + o.after ≤ q.width)
     step None true k l g = cc

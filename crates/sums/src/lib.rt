@@ -8,8 +8,8 @@ ghost use Rattle.sums.specs.Sums.{same_row, gap_of, joined, advanced, none_yet, 
 ghost use Rattle.sums.specs.Chain.{RowsAsked, Chained, ChainedTo};
 ghost use Rattle.sums.specs.Table.{upto, Small, AddedRow, Room, Entered, TableOf};
 
-use layout::Span;
-use rows::{Fault, Row};
+use layout::{Fault, Span};
+use rows::Row;
 
 // Of the rows so far: what stands before the span and what from there on, how many of them are of the group, the spacing of its last row, and
 // its first fault.
