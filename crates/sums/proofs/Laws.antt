@@ -3,20 +3,18 @@ use Prim.Native.Nat.{ℕ, suc, ◌+◌, ◌/◌}
 use native.Mathlib.Omega.{arith}
 use mathlib.Core.Path.{◌≡◌, refl, ◌∙◌, ap}
 use mathlib.Core.Bool.{Bool, true, false}
-use Rattle.std.specs.Prelude.{Option, Some, None}
+use Rattle.std.specs.Prelude.{Option, Some, None, is_some, unwrap_or}
 use Rattle.std.specs.Option.{option_or}
 use mathlib.Core.List.{List, [], ◌∷◌, map}
 use lib.Dec.{eqb}
 use borrow.Author.Tests.{eq-eqb, ne_eqb}
 use Rattle.base.specs.Pick.{pick}
-use Rattle.value.specs.declared.OptNum.{OptNum}
-use Rattle.value.specs.declared.OptNum.TheVariants.{Some as num, None as no_num}
 use Rattle.layout.specs.declared.Entry.{Entry}
-use Rattle.layout.specs.Types.{unwrap_or, Meter}
+use Rattle.layout.specs.Types.{Meter}
 use Rattle.layout.specs.Placing.{or_else, first_fault, keep, select, same, due, gap, sum_before, sum_after}
 use Rattle.layout.specs.declared.Fault.{Fault}
 use Rattle.rows.specs.declared.Row.{Row}
-use Rattle.rows.specs.Measured.{flag, row_of, RowTells}
+use Rattle.rows.specs.Measured.{row_of, RowTells}
 use Rattle.rows.proofs.Laws.{earlier_is}
 use Rattle.sums.specs.declared.Sums.{Sums}
 use Rattle.sums.specs.Sums.{same_row, gap_of, joined, advanced, sums, none_yet}
@@ -58,9 +56,9 @@ module _ (m : Meter) (p : RowTells m) where
   Follows o None = o.count ≡ 0
   Follows o (Some q) = (eqb o.count 0 ≡ false) × (o.spacing ≡ m.spacing q)
 
-  due_is : (e : Entry) (h : ℕ) (s : OptNum) → e.state.char_spacing ≡ s → pick (flag s) (m.spacing e) h ≡ unwrap_or s h
-  due_is e h no_num k = refl
-  due_is e h (num n) k = p.spaced e n k
+  due_is : (e : Entry) (h : ℕ) (s : Option ℕ) → e.state.char_spacing ≡ s → pick (is_some s) (m.spacing e) h ≡ unwrap_or s h
+  due_is e h None k = refl
+  due_is e h (Some n) k = p.spaced e n k
 
   gap_is : (o : Sums) (q : Option Entry) (e : Entry) → Follows o q → gap_of o (row_of m e) ≡ gap m q e
   unfolding due

@@ -75,7 +75,7 @@ impl Sums {
 }
 
 // The rows of a line are chained by their links, each in its record until that is written; the answer has, for each line number, how many rows
-// there are from its first on. No row is marked.
+// there are from its first on. 0 is for none: a link has a record's own field, of 16 bits, and no memory besides. No row is marked.
 pub fn link_rows(rows: &[Row], out: &mut [Span]) -> [u16; 256]
     requires { RowsAsked rows.now out.old }
     ensures { ChainedTo rows.now result out.new }
