@@ -25,6 +25,7 @@ fn deny(number: u8, start: u16) -> Refusal
 pub fn admit(file: &[u8], msg: &[u8]) -> Result<SignFile, Refusal>
     ensures { result ≡ handed (admission file.now msg.now) }
 {
+    // A match and not `map_err`: the proof of the cast in its closure did not close.
     let table = match sign::read_sign(file) {
         Ok(table) => table,
         Err(refused) => return Err(deny(1, refused.at as u16)),

@@ -1,7 +1,7 @@
 // The fonts of a sign file, their characters, and the width of a text.
 #![tactic(auto)]
 
-ghost use Rattle.std.specs.Prelude.{◌≡◌, ◌*◌, ◌≤◌, length, map, take, None};
+ghost use Rattle.std.specs.Prelude.{◌≡◌, ◌*◌, ◌≤◌, length, map, take};
 ghost use Rattle.std.specs.Iterator.{YieldsFirst, item_count};
 ghost use Rattle.utf8.specs.Utf8.{codes};
 ghost use Rattle.font.specs.Table.{entry_numbered};
@@ -168,7 +168,7 @@ impl<'a> FileFont<'a> {
 
     // The character found for a code point.
     #[tactic(auto, using(crate::proofs::StandIns::letters_found))]
-    pub fn character(&self, code: u32) -> Option<Found>
+    fn character(&self, code: u32) -> Option<Found>
         ensures { result ≡ character_in code (letters self.now) }
     {
         match self.own_character(code) {
@@ -213,6 +213,7 @@ fn wider(width: u32, spacing: u16, more: u8) -> u32
 }
 
 impl<'a, const N: usize> FontWidths<'a, N> {
+    // A font with the widths of the codes below N.
     pub fn new(font: FileFont<'a>) -> Self
         ensures { result.font ≡ font.entry }
     {
