@@ -131,7 +131,7 @@ fn moving(m: MovingTextMode, d: MovingTextDirection, t: Movement) -> Numbers
     )
 }
 
-// The numbers of a value.
+// The numbers of a value. No `From`: a function's promise is a clause, which reads plainer than a ghost member.
 pub fn numbers_of(v: Value) -> Numbers
     ensures { result ≡ numbers_of v }
 {

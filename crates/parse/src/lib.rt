@@ -2,7 +2,7 @@
 #![tactic(auto)]
 
 ghost use Rattle.std.specs.Prelude.{◌≡◌, ◌≤◌, length, drop};
-ghost use Rattle.parse.specs.Parse.{place_of, text_of, specific_of, manufacturer_specific, manufacturer_specific_end, movement_of, moving_text_mode, moving_text_linear, moving_text, end_name, first_name, name_by, name_of, name_len, by_name, tag_value};
+ghost use Rattle.parse.specs.Parse.{place_of, text_of, specific_of, manufacturer_specific, manufacturer_specific_end, movement_of, moving_text_mode, moving_text_linear, moving_text, end_name, first_name, name_by, name_of, name_len, pair, by_name, tag_value};
 ghost use Rattle.part.specs.Part.{past};
 
 use value::{Movement, MovingTextDirection, MovingTextMode, Place, SyntaxError, Value};
@@ -170,13 +170,13 @@ fn parse_moving_text(p: Rest) -> Option<Value>
 
 // A name after a /, by its two letters.
 #[tactic(auto, unfolding(crate::specs::Parse::end_name))]
-fn end_name(k: u16) -> Option<Name>
-    ensures { result ≡ end_name k }
+fn end_name(b: u8, c: u8) -> Option<Name>
+    ensures { result ≡ end_name (pair b c) }
 {
-    match k {
-        0x7363 => Some(Name::ScEnd),
-        0x666c => Some(Name::FlEnd),
-        0x6d73 => Some(Name::MsEnd),
+    match [b, c] {
+        [b's', b'c'] => Some(Name::ScEnd),
+        [b'f', b'l'] => Some(Name::FlEnd),
+        [b'm', b's'] => Some(Name::MsEnd),
         _ => None,
     }
 }
@@ -190,7 +190,7 @@ fn first_name(a: u8, b: u8, c: u8) -> Option<Name>
         b'f' if b == b'e' => None,
         b'f' => Some(Name::F),
         b'g' => Some(Name::G),
-        b'/' => end_name(u16::from_be_bytes([b, c])),
+        b'/' => end_name(b, c),
         _ => None,
     }
 }
@@ -200,23 +200,23 @@ fn first_name(a: u8, b: u8, c: u8) -> Option<Name>
 fn name_by(a: u8, b: u8, c: u8) -> Option<Name>
     ensures { result ≡ name_by a b c }
 {
-    let name = match u16::from_be_bytes([a, b]) {
-        0x6e6c => Name::Nl,
-        0x6e70 => Name::Np,
-        0x666f => Name::Fo,
-        0x6a6c => Name::Jl,
-        0x6a70 => Name::Jp,
-        0x7074 => Name::Pt,
-        0x7062 => Name::Pb,
-        0x6366 => Name::Cf,
-        0x6372 => Name::Cr,
-        0x7472 => Name::Tr,
-        0x6362 => Name::Cb,
-        0x7363 => Name::Sc,
-        0x6863 => Name::Hc,
-        0x666c => Name::Fl,
-        0x6d76 => Name::Mv,
-        0x6d73 => Name::Ms,
+    let name = match [a, b] {
+        [b'n', b'l'] => Name::Nl,
+        [b'n', b'p'] => Name::Np,
+        [b'f', b'o'] => Name::Fo,
+        [b'j', b'l'] => Name::Jl,
+        [b'j', b'p'] => Name::Jp,
+        [b'p', b't'] => Name::Pt,
+        [b'p', b'b'] => Name::Pb,
+        [b'c', b'f'] => Name::Cf,
+        [b'c', b'r'] => Name::Cr,
+        [b't', b'r'] => Name::Tr,
+        [b'c', b'b'] => Name::Cb,
+        [b's', b'c'] => Name::Sc,
+        [b'h', b'c'] => Name::Hc,
+        [b'f', b'l'] => Name::Fl,
+        [b'm', b'v'] => Name::Mv,
+        [b'm', b's'] => Name::Ms,
         _ => return first_name(a, b, c),
     };
     Some(name)

@@ -27,7 +27,7 @@ fn position_of(s: &[u8], sep: u8) -> Option<usize>
     s.iter().position(|b| lower(*b) == sep)
 }
 
-// The same, or the length.
+// The same, or the length, where a slice up to it ends.
 pub fn find(s: &[u8], sep: u8) -> usize
     ensures { result ≡ index_of sep s.now }
 {

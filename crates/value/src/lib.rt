@@ -80,7 +80,7 @@ pub enum Value {
     TextRectangle(Rectangle),
 }
 
-// The bits of `enum Tag`: CB is bit 0, which the Rust writes 1 << 0.
+// The bits of `enum Tag`: CB is bit 0, which the Rust writes 1 << 0. Numbers, since they are shifted by, and a field's is reckoned.
 pub const CB: u32 = 0;
 
 pub const CF: u32 = 1;
