@@ -1,15 +1,12 @@
 -- The answers before the one asked, and the checks.
-use Prim.Native.Nat.{ℕ, zero, suc, ◌+◌, ◌-◌, ◌*◌, ◌≤◌, ◌<◌}
+use Prim.Native.Nat.{ℕ, ◌+◌, ◌-◌, ◌*◌, ◌≤◌, ◌<◌}
 use mathlib.Core.Path.{◌≡◌, refl, sym, ◌∙◌, ap, subst}
 use mathlib.Core.Bool.{Bool, true, false}
-use mathlib.Core.List.{List, [], ◌∷◌}
+use mathlib.Core.List.{List}
 use native.Mathlib.Omega.{arith}
-use native.Mathlib.Numerals.{add-one}
 use native.Mathlib.Nat.{sub-zero}
 use lib.Dec.{ltb}
 use lib.ListN.{length}
-use mir.Val as Val
-use mir.Syntax.{w16}
 use borrow.Author.Tests.{lt-ltb, le-ltb}
 use Rattle.base.specs.Pick.{pick}
 use Rattle.refusal.specs.declared.Refusal.{Refusal}
@@ -21,13 +18,12 @@ use Rattle.admit.specs.Admission.{Admission, admission}
 use Rattle.admit.specs.Handed.{handed}
 use Rattle.admit.specs.declared.Admitted.{Admitted}
 use Rattle.admit.proofs.Laws.{Opens, denied_is, opens}
-use Rattle.layout.specs.declared.Span.{Span}
 use Rattle.layout.specs.declared.Answer.{Answer}
 use Rattle.layout.specs.declared.Answer.TheVariants.{On, Off, End, Refused}
 use Rattle.layout.specs.Types.{items, Board}
 use Rattle.refusal.specs.Refusals.{refusal}
 use Rattle.layout.specs.Fonts.{meter_of, board_of}
-use Rattle.layout.specs.Listing.{Page, on, off, refused as refused_page, pages, answer_of, records_of, Result, said, past, numbered, result_on, result}
+use Rattle.layout.specs.Listing.{Page, on, off, pages, answer_of, records_of, Result, said, numbered, result_on, result}
 use Rattle.layout.proofs.Room.{result_room}
 use Rattle.rows.specs.Rows.{spans_of}
 use Rattle.rows.proofs.Laws.{spans_length}
@@ -38,9 +34,9 @@ use Rattle.pages.specs.declared.Pages.{Pages}
 use Rattle.pages.specs.declared.PageShown.{PageShown}
 use Rattle.pages.specs.declared.NextPage.{NextPage}
 use Rattle.pages.specs.declared.NextPage.TheVariants.{Page as NextShown, End as NextNone, Refused as NextRefused}
-use Rattle.pages.specs.Pages.{board_in, Ready, looked_for, first_of, todo, shown_page, next_told, InMessage, weight, IfShown, Advances, NextAsked, NextRead}
+use Rattle.pages.specs.Pages.{board_in, Ready, looked_for, first_of, todo, next_told, InMessage, weight, IfShown, Advances, NextRead}
 use Rattle.pages.proofs.Answers.{pages_todo, first_in_law}
-use Rattle.answer.specs.Answer.{written_by, told, bare, on_by, placed_by, Answerable, count_of, RecordRoom, CountsTold, Numbered, Listable, Computed, Answered, Counted, PlacedAs}
+use Rattle.answer.specs.Answer.{written_by, told, bare, on_by, placed_by, count_of, RecordRoom, CountsTold, Numbered, Listable, Answered, PlacedAs}
 
 -- ---- an answer of a page
 
@@ -50,10 +46,6 @@ shown_said : (b : Bool) (d n : ℕ) (l : List ℕ)
     ≡ record { answer = answer_of (pick b (on d (spans_of l n)) (off d)); written = records_of (pick b (on d (spans_of l n)) (off d)) }
 shown_said true d n l = rw (spans_length l n)
 shown_said false d n l = refl
-
-shown_past : (b : Bool) (d : ℕ) (rs : List Span) (a : Result) → past (pick b (on d rs) (off d)) a ≡ a
-shown_past true d rs a = refl
-shown_past false d rs a = refl
 
 -- what an answer of a page says, on or off: b
 module _ (b : Bool) (x : PageShown) where
@@ -80,26 +72,6 @@ module _ (b : Bool) (x : PageShown) where
       go : (t : Bool) → CountsTold file msg l (pick t (on_by x) (bare (Off x.duration)))
       go true = record { looked = h; spans = refl }
       go false = record { looked = refl; spans = refl }
-
-module _ {n : NextPage} where
-  pub count_fits : {count : ℕ} {p : Pages} {x : PageShown} → Answerable n count → n ≡ NextShown p x → Val.Fits w16 x.count
-  count_fits h q = omega (arith, (subst (IfShown (λ p x. (x.count < 65536) × (x.looked < 65536))) q h.countable).0)
-
-  pub looked_fits : {count : ℕ} {p : Pages} {x : PageShown} → Answerable n count → n ≡ NextShown p x → Val.Fits w16 x.looked
-  looked_fits h q = omega (arith, (subst (IfShown (λ p x. (x.count < 65536) × (x.looked < 65536))) q h.countable).1)
-
-  pub answer_on : (count : ℕ) {p : Pages} {x : PageShown} → n ≡ NextShown p x → x.on ≡ true → on_by x ≡ placed_by n count
-  answer_on count q e = rw (q, e)
-
-  pub answer_off : (count : ℕ) {p : Pages} {x : PageShown} {r : Placed} → n ≡ NextShown p x → x.on ≡ false → r ≡ bare (Off x.duration)
-      → r ≡ placed_by n count
-  answer_off count q e b = rw (q, e) b
-
-  pub answer_end : (count : ℕ) {r : Placed} → n ≡ NextNone → r ≡ bare (End count) → r ≡ placed_by n count
-  answer_end count q b = rw q b
-
-  pub answer_refused : (count : ℕ) {x : Refusal} {r : Placed} → n ≡ NextRefused x → r ≡ bare (Refused x) → r ≡ placed_by n count
-  answer_refused count q b = rw q b
 
 -- ---- the loop
 
@@ -130,10 +102,6 @@ numbered_start {file} {table} {msg} {number} {rows} {out} {p} r e =
       same = rw sub-zero (ap (λ (x : List Page). numbered 0 x number) (sym (pages_todo s msg)));
     })
 
--- one answer less
-less : (i m k : ℕ) (q : Page) (l : List Page) → m ≡ suc k → numbered i (q ∷ l) m ≡ past q (numbered (suc i) l k)
-less i m k q l e = rw e
-
 module _ {file : List ℕ} {table : SignFile} {msg : List ℕ} {number : ℕ} {rows₀ out₀ rows out : List ℕ} {p : Pages} {i : ℕ}
     (z : Stands file table msg number rows₀ out₀ rows out p i) where
   abbrev s : Board
@@ -141,14 +109,6 @@ module _ {file : List ℕ} {table : SignFile} {msg : List ℕ} {number : ℕ} {r
 
   abbrev whole : Result
   whole = numbered 0 (pages s (items s.config msg)) number
-
-  count_small : i < 65536
-  count_small = omega (arith, z.few, z.stands.within, z.ready.small)
-
-  pub numbered_asks : NextAsked file table msg p rows out
-  numbered_asks =
-      let r : Ready file table msg rows₀ out₀ = z.ready in
-      record { ready = record { opened = r.opened; small = r.small; rowed = omega arith; room = omega arith }; stands = z.stands }
 
   -- t is the next answer
   module _ {rows' out' : List ℕ} {t : NextPage} (read : NextRead file table msg p rows out rows' out' p.page_state t) where
@@ -171,43 +131,6 @@ module _ {file : List ℕ} {table : SignFile} {msg : List ℕ} {number : ℕ} {r
     goes : {u : NextPage} → t ≡ u → Goes u
     goes q = subst Goes q read.next
 
-    pub numbered_next : {q : Pages} {x : PageShown} → t ≡ NextShown q x → i < number → Stands file table msg number rows₀ out₀ rows' out' q (i + 1)
-    numbered_next {q} {x} c h =
-        let g : Advances file msg out' table.config p.at (weight p.page_state) q x = goes c in
-        record {
-          ready = z.ready;
-          stands = g.stands;
-          few = omega (arith, g.less, z.few);
-          reached = omega arith;
-          rowed = numbered_rowed;
-          room = numbered_room;
-          same =
-              rw (add-one i)
-              (sym (shown_past x.on x.duration (spans_of out' x.count) (numbered (suc i) (todo s msg q) (number - suc i)))
-              ∙ sym (less i (number - i) (number - suc i) (shown_page out' x) (todo s msg q) (omega arith)) ∙ here c);
-        }
-
-    pub numbered_end : {r : Placed} → t ≡ NextNone → r ≡ bare (End i) → Tells r
-    numbered_end c d =
-        subst Tells (sym d) (record { ends = here c; counts = record { looked = refl; spans = refl }; few = omega arith; room = numbered_room })
-
-    pub numbered_refused : {x : Refusal} {r : Placed} → t ≡ NextRefused x → r ≡ bare (Refused x) → Tells r
-    numbered_refused {x} c d =
-        subst Tells (sym d)
-        (record { ends = go (number - i) ∙ here c; counts = record { looked = refl; spans = refl }; few = omega arith; room = numbered_room })
-      where
-        go : (j : ℕ) → told (Refused x) out' ≡ numbered i (refused_page x ∷ []) j
-        go zero = refl
-        go (suc j) = refl
-
-    countable : (u : NextPage) → Goes u → IfShown (λ q x. (x.count < 65536) × (x.looked < 65536)) u
-    countable (NextShown q x) g = (omega (arith, g.few, z.ready.small), omega (arith, g.short, z.ready.small))
-    countable NextNone g = tt
-    countable (NextRefused x) g = tt
-
-    pub next_answerable : Answerable t i
-    next_answerable = record { few = count_small; countable = countable t read.next }
-
     asked : (j : ℕ) (u : NextPage) → j ≡ 0 → told (placed_by u i).answer out' ≡ numbered i (next_told s msg out' u) j
     asked j (NextShown q x) h =
         ap (λ (a : Answer). told a out') (shown_answer x.on x) ∙ rw h (shown_said x.on x.duration x.count out')
@@ -224,9 +147,10 @@ module _ {file : List ℕ} {table : SignFile} {msg : List ℕ} {number : ℕ} {r
     counts NextNone g = record { looked = refl; spans = refl }
     counts (NextRefused x) g = record { looked = refl; spans = refl }
 
-    pub numbered_asked : {r : Placed} → number ≤ i → r ≡ placed_by t i → Tells r
+    pub numbered_asked : {r : Placed} → number ≤ i → r ≡ placed_by t number → Tells r
     numbered_asked h c =
-        subst Tells (sym c)
+        let e : number ≡ i = omega (arith, z.reached) in
+        subst Tells (sym (c ∙ ap (placed_by t) e))
         (record {
           ends = asked (number - i) t (omega arith) ∙ here refl;
           counts = counts t read.next;
@@ -299,26 +223,7 @@ none_written (Off d) l = refl
 none_written (End n) l = refl
 none_written (Refused r) l = refl
 
--- a is the answer, l holds its records, n is their count
-module _ {file msg : List ℕ} {number room : ℕ} {out l : List ℕ} {a : Answer} (h : Computed file msg number room out l a) {n : ℕ} (c : n ≡ count_of a) where
-  abbrev x : Result
-  x = result file msg number room
-
-  counted : length x.written ≡ n
-  counted = ap (λ (y : Result). length y.written) (sym h.ends) ∙ count_told a l ∙ sym c
-
-  pub counted_is : Counted file msg number room l (record { answer = a; count = n })
-  counted_is =
-      let r : (length x.written ≤ 1400) × (length x.written ≤ room) = result_room file msg number room in
-      record {
-        answer = ap (λ (y : Result). y.answer) h.ends;
-        records = ap (spans_of l) c ∙ none_written a l ∙ ap (λ (y : Result). y.written) h.ends;
-        most = omega (arith, r.0, counted);
-        few = omega (arith, r.1, counted);
-        long = omega (arith, h.few, h.long, c);
-      }
-
--- p is the answer with its counts
+-- p is the answer with its counts, l holds its records
 module _ {file msg : List ℕ} {number room : ℕ} {out l : List ℕ} {p : Placed} (h : Answered file msg number room out l p) where
   abbrev y : Result
   y = result file msg number room
@@ -345,6 +250,14 @@ module _ {file msg : List ℕ} {number room : ℕ} {out l : List ℕ} {p : Place
   same_placed q a b d =
       ap (λ (x : Answer). made x p.looked p.spans) a ∙ ap (λ (k : ℕ). made q.answer k p.spans) b ∙ ap (made q.answer q.looked) d
 
-  pub placed_as : PlacedAs file msg number room l (record { placed = p; count = p.spans })
+  pub placed_as : PlacedAs file msg number room out l p
   placed_as =
-      record { placed = same_placed (with_counts sign msg y) answer_is looked_is spans_are; counted = counted_is h.computed h.counts.spans }
+      let r : (length y.written ≤ 1400) × (length y.written ≤ room) = result_room file msg number room in
+      record {
+        computed = h.computed;
+        placed = same_placed (with_counts sign msg y) answer_is looked_is spans_are;
+        records = ap (spans_of l) h.counts.spans ∙ none_written p.answer l ∙ written_is;
+        most = omega (arith, r.0, spans_are);
+        few = omega (arith, r.1, spans_are);
+        long = omega (arith, h.computed.few, h.computed.long, h.counts.spans);
+      }

@@ -16,8 +16,6 @@ use Rattle.pages.specs.Pages.{board_in, IfShown}
 use Rattle.pages.specs.declared.PageShown.{PageShown}
 use Rattle.pages.specs.declared.NextPage.{NextPage}
 use Rattle.pages.specs.declared.NextPage.TheVariants.{Page as NextShown, End as NextNone, Refused as NextRefused}
-use Rattle.answer.specs.declared.AnswerCount.{AnswerCount}
-use Rattle.answer.specs.declared.PlacedCount.{PlacedCount}
 
 -- the records that an answer counts: the first of the slice
 abbrev pub written_by : Answer → List ℕ → List Span
@@ -87,15 +85,11 @@ pub record Answered (file msg : List ℕ) (number room : ℕ) (out out' : List �
   pub computed : Computed file msg number room out out' r.answer
   pub counts : CountsTold file msg out' r
 
--- the same with the count of its records, which stand first in the slice
-pub record Counted (file msg : List ℕ) (number room : ℕ) (out' : List ℕ) (r : AnswerCount) : Type 0 where
-  pub answer : r.answer ≡ (result file msg number room).answer
-  pub records : spans_of out' r.count ≡ (result file msg number room).written
-  pub most : r.count ≤ 1400
-  pub few : r.count ≤ room
-  pub long : SpanRoom r.count out'
-
--- A9's answer, with the count of its records
-pub record PlacedAs (file msg : List ℕ) (number room : ℕ) (out' : List ℕ) (r : PlacedCount) : Type 0 where
-  pub placed : r.placed ≡ with_counts (sign_file file) msg (result file msg number room)
-  pub counted : Counted file msg number room out' (record { answer = r.placed.answer; count = r.count })
+-- A9's answer, and its records stand first in the slice and fit what is lent
+pub record PlacedAs (file msg : List ℕ) (number room : ℕ) (out out' : List ℕ) (r : Placed) : Type 0 where
+  pub computed : Computed file msg number room out out' r.answer
+  pub placed : r ≡ with_counts (sign_file file) msg (result file msg number room)
+  pub records : spans_of out' r.spans ≡ (result file msg number room).written
+  pub most : r.spans ≤ 1400
+  pub few : r.spans ≤ room
+  pub long : SpanRoom r.spans out'

@@ -1,14 +1,16 @@
 // The computation of an answer: sign file, message, answer number and room give the answer with its counts, and its records as rows of numbers.
 #![tactic(auto)]
 
-ghost use Rattle.std.specs.Prelude.{◌≡◌};
+ghost use Rattle.std.specs.Prelude.{◌≡◌, ◌*◌, ◌≤◌, ◌<◌, length};
+ghost use Rattle.rows.specs.Rows.{row_width};
 ghost use Rattle.pages.specs.Pages.{Ready};
-ghost use Rattle.answer.specs.Answer.{bare, placed_by, Answerable, count_of, RecordRoom, Numbered, Listable, Answered, Computed, Counted, PlacedAs};
+ghost use Rattle.answer.specs.Answer.{bare, placed_by, Answerable, RecordRoom, Numbered, Listable, Computed, PlacedAs};
 
 use counts::Placed;
 use layout::Answer;
 use pages::NextPage;
 use refusal::{OptRefusal, Refusal};
+use rows::{ROW_ROOM, SHORT_ROW_ROOM};
 use sign::SignFile;
 
 // An answer without records: both counts are 0.
@@ -57,59 +59,55 @@ fn numbered(
     ensures { Numbered file.now table msg.now number out.old out.new result }
 {
     let mut p = pages::first(table.config);
-    let mut i: usize = 0;
-    while i < number {
+    for i in 0..number {
         match pages::next(file, table, msg, p, rows, out) {
-            NextPage::Page(q, _) => {
-                p = q;
-                i += 1;
-            }
-            NextPage::End => {
-                return unplaced(Answer::End(i as u16));
-            }
-            NextPage::Refused(r) => {
-                return unplaced(Answer::Refused(r));
-            }
+            NextPage::Page(q, _) => p = q,
+            NextPage::End => return unplaced(Answer::End(i as u16)),
+            NextPage::Refused(r) => return unplaced(Answer::Refused(r)),
         }
     }
-    answer_of(pages::next(file, table, msg, p, rows, out), i)
+    answer_of(pages::next(file, table, msg, p, rows, out), number)
 }
 
 // The same, with rows for as many spans as the message can have: one for each of its bytes.
-fn paged(file: &[u8], table: SignFile, msg: &[u8], number: usize, out: &mut [u16]) -> Placed
-    requires { Listable file.now table msg.now out.old }
+fn paged<const N: usize>(
+    file: &[u8],
+    table: SignFile,
+    msg: &[u8],
+    number: usize,
+    out: &mut [u16],
+) -> Placed
+    requires listable { Listable file.now table msg.now out.old }
+    requires rowed { row_width * length msg.now ≤ N }
+    requires fits { N < 65536 }
     ensures { Numbered file.now table msg.now number out.old out.new result }
 {
-    if msg.len() <= 256 {
-        let mut few = [0u16; rows::SHORT_ROW_ROOM];
-        return numbered(file, table, msg, number, &mut few, out);
-    }
-    let mut rows = [0u16; rows::ROW_ROOM];
+    let mut rows = [0u16; N];
     numbered(file, table, msg, number, &mut rows, out)
 }
 
 // The answer with its counts, and its records first in the slice, which has room for as many as the message has bytes. Behind the refusals of
-// every call comes 4, the listing's own.
-fn answered(file: &[u8], msg: &[u8], number: usize, room: usize, out: &mut [u16]) -> Placed
+// every call comes 4, the listing's own. The rows of a short message take less of the stack.
+pub fn placed(file: &[u8], msg: &[u8], number: usize, room: usize, out: &mut [u16]) -> Placed
     requires { RecordRoom msg.now out.old }
-    ensures { Answered file.now msg.now number room out.old out.new result }
+    ensures { PlacedAs file.now msg.now number room out.old out.new result }
 {
     let call = admit::admit(file, msg);
-    let denied = call.denied;
-    match denied {
-        OptRefusal::Some(r) => unplaced(Answer::Refused(r)),
-        OptRefusal::None => {
-            if room < 1400 {
-                return unplaced(Answer::Refused(Refusal {
-                    number: 4,
-                    start: 0,
-                    length: 0,
-                    detail: 0,
-                }));
-            }
-            paged(file, call.table, msg, number, out)
-        }
+    if let OptRefusal::Some(r) = call.denied {
+        return unplaced(Answer::Refused(r));
     }
+    if room < 1400 {
+        return unplaced(Answer::Refused(Refusal {
+            number: 4,
+            start: 0,
+            length: 0,
+            detail: 0,
+        }));
+    }
+    if msg.len() <= 256 {
+        return paged::<SHORT_ROW_ROOM>(file, call.table, msg, number, out);
+    }
+    paged::<ROW_ROOM>(file, call.table, msg, number, out)
 }
 
 // The answer alone.
@@ -117,53 +115,5 @@ pub fn compute(file: &[u8], msg: &[u8], number: usize, room: usize, out: &mut [u
     requires { RecordRoom msg.now out.old }
     ensures { Computed file.now msg.now number room out.old out.new result }
 {
-    let p = answered(file, msg, number, room, out);
-    let answer = p.answer;
-    answer
-}
-
-// How many records an answer has.
-fn count_of(a: Answer) -> usize
-    ensures { result ≡ count_of a }
-{
-    match a {
-        Answer::On(_, n) => n as usize,
-        Answer::Off(_) => 0,
-        Answer::End(_) => 0,
-        Answer::Refused(_) => 0,
-    }
-}
-
-// An answer, and how many records it has.
-#[derive(Clone, Copy)]
-pub struct AnswerCount {
-    pub answer: Answer,
-    pub count: usize,
-}
-
-// The answer with the count of its records, which stand first in the slice.
-pub fn counted(file: &[u8], msg: &[u8], number: usize, room: usize, out: &mut [u16]) -> AnswerCount
-    requires { RecordRoom msg.now out.old }
-    ensures { Counted file.now msg.now number room out.new result }
-{
-    let answer = compute(file, msg, number, room, out);
-    let count = count_of(answer);
-    AnswerCount { answer, count }
-}
-
-// An answer with its counts, and how many records it has.
-#[derive(Clone, Copy)]
-pub struct PlacedCount {
-    pub placed: Placed,
-    pub count: usize,
-}
-
-// The answer with its counts, and with the count of its records, which stand first in the slice.
-pub fn placed(file: &[u8], msg: &[u8], number: usize, room: usize, out: &mut [u16]) -> PlacedCount
-    requires { RecordRoom msg.now out.old }
-    ensures { PlacedAs file.now msg.now number room out.new result }
-{
-    let placed = answered(file, msg, number, room, out);
-    let count = placed.spans as usize;
-    PlacedCount { placed, count }
+    placed(file, msg, number, room, out).answer
 }
