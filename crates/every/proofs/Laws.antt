@@ -3,9 +3,10 @@ use Prim.Native.Nat.{ℕ, zero, suc, ◌+◌, ◌-◌, ◌*◌, ◌≤◌, ◌<�
 use native.Mathlib.Omega.{arith}
 use native.Mathlib.Nat.{add-zero, zero-add}
 use native.Mathlib.Numerals.{add-one}
+use Rattle.std.proofs.Common.{inl, inr}
 use mathlib.Core.Path.{◌≡◌, refl, sym, ◌∙◌, ap, subst}
 use mathlib.Core.Bool.{Bool, true, false}
-use mathlib.Core.Option.{Option, none, some}
+use Rattle.std.specs.Prelude.{◌⊎◌, Option, Some, None, Result}
 use mathlib.Core.List.{List, [], ◌∷◌, ◌++◌, append_assoc, append-nil}
 use lib.Dec.{ltb}
 use lib.ListN.{length, set, take, drop, length-append, length-drop, length-set, drop_of_length-le}
@@ -15,7 +16,7 @@ use mir.Syntax.{w64}
 use borrow.Author.Tests.{lt-ltb, le-ltb, ltb-true, ltb-false}
 use Rattle.base.specs.Pick.{pick}
 use Rattle.refusal.specs.declared.Refusal.{Refusal}
-use Rattle.refusal.specs.declared.OptRefusal.TheVariants.{Some, None}
+use Rattle.refusal.specs.declared.OptRefusal.TheVariants.{Some as SomeRefusal, None as NoRefusal}
 use Rattle.refusal.specs.Refusals.{refusal}
 use Rattle.records.specs.declared.Config.{Config}
 use Rattle.sign.specs.Sign.{Font, Sign, Accepted, sign_file}
@@ -28,7 +29,6 @@ use Rattle.layout.specs.declared.Span.{Span}
 use Rattle.layout.specs.Types.{items, Board}
 use Rattle.layout.specs.Fonts.{meter_of, board_of}
 use Rattle.layout.specs.Listing.{Page, on, off, pages}
-use Rattle.page.specs.Scan.{fault_is}
 use Rattle.rows.specs.Rows.{cells, cells_at, span_width, span_from, span_at, spans_of}
 use Rattle.rows.proofs.Laws.{cells_same, cells_length, part, one_more, spans_length}
 use Rattle.counts.specs.Placing.{fonts_in, capitals_in}
@@ -41,10 +41,9 @@ use Rattle.pages.specs.Pages.{board_in, first_of, todo, next_told, InMessage, we
 use Rattle.pages.proofs.Answers.{pages_todo, first_in_law}
 use Rattle.every.specs.declared.Shown.{Shown}
 use Rattle.every.specs.declared.Walked.{Walked}
-use Rattle.every.specs.declared.AllCount.{AllCount}
-use Rattle.every.specs.declared.Counts.TheVariants.{Listed, Refused}
-use Rattle.every.specs.All.{shown, answers_in, records_in, refusal_in, Gathered, gather, none_but, gathered_on, gathered, counts_of, unless_refused}
-use Rattle.every.specs.Walk.{records_from, shown_numbers, shown_from, shown_at, showns_of, ShownRoom, ShownPut, Countable, shown_by, ShownAs, Walkable, WalkAsked, walked_to, told, Walks, WalksWith, LongRoom, Gathers, settled_on, settled_by, Settles}
+use Rattle.every.specs.declared.Listed.{Listed}
+use Rattle.every.specs.All.{shown, answers_in, records_in, refusal_in, Gathered, gather, none_but, gathered_on, gathered, listed_as, counts_of, unless_refused}
+use Rattle.every.specs.Walk.{records_from, shown_numbers, shown_from, shown_at, showns_of, ShownRoom, ShownPut, Countable, shown_by, ShownAs, Walkable, WalkAsked, told, Walks, OpenedTo, LongRoom, Gathers, listed_by, Written, Settles}
 use Rattle.every.proofs.Few.{answers_few, records_few}
 
 -- ---- rows of numbers at the start of a list
@@ -369,34 +368,27 @@ module _ {file : List ℕ} {table : SignFile} {msg rows₀ all₀ rows all : Lis
 
     -- the walk ends: nothing is left to be told but a refusal r
     ends_so : (r : Option Refusal) → answers_in n left ≡ [] → records_in left ≡ [] → refusal_in left ≡ r
-        → Walks file table msg all₀ all' (walked_to i n r)
+        → Walks file table msg all₀ all' (record { answers = i; records = n; refused = r })
     ends_so r a k f =
         record {
           ends =
-              told_as (walked_to i n r) (pages s (items s.config msg))
+              told_as (record { answers = i; records = n; refused = r }) (pages s (items s.config msg))
               (answers_stay ∙ sym (append-nil (showns_of all i)) ∙ ap (λ (x : List Shown). showns_of all i ++ x) (sym a) ∙ z.answers)
               (records_stay ∙ sym (append-nil (spans_of (drop records_from all) n)) ∙ ap (λ (x : List Span). spans_of (drop records_from all) n ++ x) (sym k)
               ∙ z.records)
-              (fault_is_law r ∙ sym f ∙ z.refusal);
+              (sym f ∙ z.refusal);
           long = walk_long;
         }
       where
-        fault_is_law : (r : Option Refusal) → fault_is (walked_to i n r).refused ≡ r
-        fault_is_law none = refl
-        fault_is_law (some x) = refl
-
         told_as : (w : Walked) (l : List Page) → showns_of all' w.answers ≡ answers_in 0 l → spans_of (drop records_from all') w.records ≡ records_in l
-            → fault_is w.refused ≡ refusal_in l → told w all' ≡ gather l
+            → w.refused ≡ refusal_in l → told w all' ≡ gather l
         told_as w l p q r = rw (p, q, r)
 
-    pub walk_end : {w : Walked} → t ≡ NextNone → w ≡ walked_to i n none → Walks file table msg all₀ all' w
-    walk_end c e =
-        subst (Walks file table msg all₀ all') (sym e) (ends_so none (ap (answers_in n) (is_left c)) (ap records_in (is_left c)) (ap refusal_in (is_left c)))
+    pub walk_end : t ≡ NextNone → Walks file table msg all₀ all' (record { answers = i; records = n; refused = None })
+    walk_end c = ends_so None (ap (answers_in n) (is_left c)) (ap records_in (is_left c)) (ap refusal_in (is_left c))
 
-    pub walk_refused : {w : Walked} {x : Refusal} → t ≡ NextRefused x → w ≡ walked_to i n (some x) → Walks file table msg all₀ all' w
-    walk_refused {w} {x} c e =
-        subst (Walks file table msg all₀ all') (sym e)
-        (ends_so (some x) (ap (answers_in n) (is_left c)) (ap records_in (is_left c)) (ap refusal_in (is_left c)))
+    pub walk_refused : {x : Refusal} → t ≡ NextRefused x → Walks file table msg all₀ all' (record { answers = i; records = n; refused = Some x })
+    walk_refused {x} c = ends_so (Some x) (ap (answers_in n) (is_left c)) (ap records_in (is_left c)) (ap refusal_in (is_left c))
 
     -- an answer x, and q comes after it
     module _ {q : Pages} {x : PageShown} (c : t ≡ NextShown q x) where
@@ -459,23 +451,6 @@ module _ {file : List ℕ} {table : SignFile} {msg rows₀ all₀ rows all : Lis
               refusal = sym left_refusal ∙ z.refusal;
             }
 
--- ---- the call's own refusal
-
-module _ (file : List ℕ) (table : SignFile) (msg : List ℕ) (a k : ℕ) (all : List ℕ) where
-  abbrev Lists : List ℕ → Walked → Type 0
-  Lists = WalksWith file table msg a k all
-
-  pub few_answers : {r : Walked} → a < 1026 → r ≡ walked_to 0 0 (some (refusal 4 0 0 0)) → Lists all r
-  unfolding showns_of spans_of
-  few_answers g e = subst (Lists all) (sym e) (record { ends = rw (lt-ltb a 1026 g); long = refl })
-
-  pub few_records : {r : Walked} → 1026 ≤ a → k < 2048 → r ≡ walked_to 0 0 (some (refusal 4 0 0 0)) → Lists all r
-  unfolding showns_of spans_of
-  few_records f g e = subst (Lists all) (sym e) (record { ends = rw (le-ltb a 1026 f, lt-ltb k 2048 g); long = refl })
-
-  pub all_well : {all' : List ℕ} {r : Walked} → 1026 ≤ a → 2048 ≤ k → Walks file table msg all all' r → Lists all' r
-  all_well f g d = record { ends = rw (le-ltb a 1026 f, le-ltb k 2048 g) d.ends; long = d.long }
-
 -- ---- the call
 
 board_is : (file msg : List ℕ) (c : Config) (fs : List Font) → sign_file file ≡ Accepted c fs → board_in file msg c ≡ board_of msg c fs
@@ -483,41 +458,34 @@ unfolding board_of meter_in
 board_is file msg c fs q = ap (λ (x : Sign). record { config = c; meter = meter_of msg (capitals_in x) (fonts_in x) }) q
 
 -- x is the answer of `admit`
-module _ (file msg : List ℕ) {x : Admitted} (e : x ≡ handed (admission file msg) (sign_file file)) where
-  pub call_denied : {y : Refusal} → x.denied ≡ Some y → (a k : ℕ) (all : List ℕ) {r : Walked} → r ≡ walked_to 0 0 (some y) → Gathers file msg a k all all r
-  unfolding gathered showns_of spans_of
-  call_denied h a k all d =
-      subst (Gathers file msg a k all all) (sym d)
-      (record { ends = ap (λ (y : Admission). gathered_on y msg a k) (sym (denied_is file msg e h)); long = refl })
+module _ (file msg : List ℕ) {x : Admitted} (e : x ≡ handed (admission file msg) (sign_file file)) (a k : ℕ) where
+  pub call_denied : {y : Refusal} → x.denied ≡ SomeRefusal y → gathered file msg a k ≡ none_but y
+  unfolding gathered
+  call_denied h = ap (λ (y : Admission). gathered_on y msg a k) (denied_is file msg e h)
 
-  module _ (h : x.denied ≡ None) where
-    pub call_walkable : {all : List ℕ} → LongRoom msg all → Walkable file x.table msg all
-    call_walkable q =
-        let o : Opens file msg x.table = opens file msg e h in
-        record { opened = (o.table, o.accepted); small = o.admits_it.small; room = q.records o.admits_it.small }
+  module _ (h : x.denied ≡ NoRefusal) where
+    abbrev known : Opens file msg x.table
+    known = opens file msg e h
 
-    pub call_gathered : {a k : ℕ} {all all' : List ℕ} {r : Walked} → WalksWith file x.table msg a k all all' r → Gathers file msg a k all all' r
+    is_on : gathered file msg a k ≡ gathered_on (admitted x.table.config known.fs) msg a k
     unfolding gathered
-    call_gathered {a} {k} d =
-        let o : Opens file msg x.table = opens file msg e h in
-        let after : Board → Gathered =
-        λ y. pick (ltb a 1026) (none_but (refusal 4 0 0 0))
-        (pick (ltb k 2048) (none_but (refusal 4 0 0 0)) (gather (pages y (items x.table.config msg)))) in
+    is_on = ap (λ (y : Admission). gathered_on y msg a k) known.is
+
+    pub call_short : (a < 1026) ⊎ ((1026 ≤ a) × (k < 2048)) → gathered file msg a k ≡ none_but (refusal 4 0 0 0)
+    call_short (inl g) = is_on ∙ rw (lt-ltb a 1026 g)
+    call_short (inr g) = is_on ∙ rw (le-ltb a 1026 g.0, lt-ltb k 2048 g.1)
+
+    pub call_opened : 1026 ≤ a → 2048 ≤ k → OpenedTo file msg a k x.table
+    call_opened f g =
         record {
-          ends =
-              d.ends ∙ ap after (board_is file msg x.table.config o.fs o.admits_it.sign)
-              ∙ ap (λ (y : Admission). gathered_on y msg a k) (sym o.is);
-          long = d.long;
+          opened = (known.table, known.accepted);
+          small = known.admits_it.small;
+          is =
+              is_on ∙ rw (le-ltb a 1026 f, le-ltb k 2048 g)
+              (sym (ap (λ (y : Board). gather (pages y (items x.table.config msg))) (board_is file msg x.table.config known.fs known.admits_it.sign)));
         }
 
 -- ---- what it writes
-
-module _ (w : Walked) where
-  pub settled_refused : {x : Refusal} → w.refused ≡ Some x → record { counts = Refused x; answers = 0; records = 0 } ≡ settled_by w
-  settled_refused e = rw e
-
-  pub settled_ended : w.refused ≡ None → record { counts = Listed w.answers w.records; answers = w.answers; records = w.records } ≡ settled_by w
-  settled_ended e = rw e
 
 -- what is gathered for slices that are lent: a answers and k records
 pub record Fits (a k : ℕ) (msg : List ℕ) (g : Gathered) : Type 0 where
@@ -540,8 +508,8 @@ none_fits a k msg r =
     }
 
 unless_le : {A : Type 0} (o : Option Refusal) (l : List A) → length (unless_refused o l) ≤ length l
-unless_le none l = omega arith
-unless_le (some r) l = omega arith
+unless_le None l = omega arith
+unless_le (Some r) l = omega arith
 
 pub gathered_fits : (file msg : List ℕ) (a k : ℕ) → Fits a k msg (gathered file msg a k)
 unfolding gathered board_of
@@ -594,36 +562,28 @@ module _ {file msg : List ℕ} {a k : ℕ} {all l : List ℕ} {w : Walked} (h : 
           omega (arith, room.records m, records_counted, fits.within, h.long)
       look false q = omega (arith, ltb-false 0 w.records q, room.answers, h.long)
 
-  settles_on : (o : Option Refusal) → g.refusal ≡ o → Settles file msg a k all l (settled_on o w.answers w.records)
-  unfolding showns_of spans_of
-  settles_on none e =
+  -- nothing was refused
+  written : w.refused ≡ None → Written g a k l (listed_as w.answers w.records)
+  written e =
+      let f : g.refusal ≡ None = ap (λ (y : Gathered). y.refusal) (sym h.ends) ∙ e in
       record {
-        counts =
-            ap (λ (x : ℕ). Listed x w.records) answers_counted ∙ ap (Listed (length g.answers)) records_counted
-            ∙ ap (λ (o : Option Refusal). counts_of o (length g.answers) (length g.records)) (sym e);
-        answers = ap (λ (y : Gathered). y.answers) h.ends ∙ ap (λ (o : Option Refusal). unless_refused o g.answers) (sym e);
-        records = ap (λ (y : Gathered). y.records) h.ends ∙ ap (λ (o : Option Refusal). unless_refused o g.records) (sym e);
+        answers = ap (λ (y : Gathered). y.answers) h.ends;
+        records = ap (λ (y : Gathered). y.records) h.ends;
         few_answers = omega (arith, answers_counted, fits.answers);
         few_records = omega (arith, records_counted, fits.records);
-        answers_fit =
-            omega (arith, answers_counted, fits.lent_answers, ap (λ (o : Option Refusal). length (unless_refused o g.answers)) e);
-        records_fit =
-            omega (arith, records_counted, fits.lent_records, ap (λ (o : Option Refusal). length (unless_refused o g.records)) e);
+        answers_fit = omega (arith, answers_counted, fits.lent_answers, ap (λ (o : Option Refusal). length (unless_refused o g.answers)) f);
+        records_fit = omega (arith, records_counted, fits.lent_records, ap (λ (o : Option Refusal). length (unless_refused o g.records)) f);
         stand = stands;
       }
-  settles_on (some r) e =
-      record {
-        counts = ap (λ (o : Option Refusal). counts_of o (length g.answers) (length g.records)) (sym e);
-        answers = ap (λ (o : Option Refusal). unless_refused o g.answers) (sym e);
-        records = ap (λ (o : Option Refusal). unless_refused o g.records) (sym e);
-        few_answers = omega arith;
-        few_records = omega arith;
-        answers_fit = omega arith;
-        records_fit = omega arith;
-        stand = omega (arith, room.answers, h.long);
-      }
 
-  pub settles : {r : AllCount} → r ≡ settled_by w → Settles file msg a k all l r
-  settles c =
-      let e : fault_is w.refused ≡ g.refusal = ap (λ (y : Gathered). y.refusal) h.ends in
-      subst (Settles file msg a k all l) (sym (c ∙ ap (λ (o : Option Refusal). settled_on o w.answers w.records) e)) (settles_on g.refusal refl)
+  counts_are : counts_of w.refused w.answers w.records ≡ counts_of g.refusal (length g.answers) (length g.records)
+  counts_are =
+      ap (λ (o : Option Refusal). counts_of o w.answers w.records) (ap (λ (y : Gathered). y.refusal) h.ends)
+      ∙ ap (λ (n : ℕ). counts_of g.refusal n w.records) answers_counted ∙ ap (counts_of g.refusal (length g.answers)) records_counted
+
+  settled : (o : Option Refusal) → w.refused ≡ o → Settles file msg a k l (counts_of o w.answers w.records)
+  settled None e = record { counts = ap (λ (o : Option Refusal). counts_of o w.answers w.records) (sym e) ∙ counts_are; written = written e }
+  settled (Some x) e = record { counts = ap (λ (o : Option Refusal). counts_of o w.answers w.records) (sym e) ∙ counts_are; written = tt }
+
+  pub settles : {r : Result Listed Refusal} → r ≡ listed_by w → Settles file msg a k l r
+  settles c = subst (Settles file msg a k l) (sym c) (settled w.refused refl)

@@ -1,23 +1,18 @@
 -- The walk over all answers as the code makes it: answers and records as rows of numbers in one slice, the records from number 4,104 on.
-use Rattle.std.specs.Prelude.{ℕ, ◌+◌, ◌*◌, ◌≤◌, ◌<◌, ◌≡◌, List, [], ◌∷◌, ◌++◌, ltb, length, get_or, drop}
-use Rattle.std.proofs.Math.Option.{Option, none, some}
+use Rattle.std.specs.Prelude.{ℕ, ◌+◌, ◌*◌, ◌≤◌, ◌<◌, ◌≡◌, List, [], ◌∷◌, ◌++◌, length, get_or, drop, Result, MatchResult, IfOk}
 use Rattle.base.specs.Pick.{pick}
 use Rattle.refusal.specs.declared.Refusal.{Refusal}
-use Rattle.refusal.specs.declared.OptRefusal.{OptRefusal}
-use Rattle.refusal.specs.declared.OptRefusal.TheVariants.{Some, None}
-use Rattle.refusal.specs.Refusals.{refusal}
 use Rattle.sign.specs.declared.SignFile.{SignFile}
 use Rattle.layout.specs.Types.{items}
 use Rattle.layout.specs.Listing.{pages}
-use Rattle.page.specs.Scan.{fault_is}
 use Rattle.rows.specs.Rows.{cells, cells_at, span_width, RowRoom, spans_of}
 use Rattle.meter.specs.Gauges.{AcceptedTable}
 use Rattle.pages.specs.declared.PageShown.{PageShown}
 use Rattle.pages.specs.Pages.{board_in}
 use Rattle.every.specs.declared.Shown.{Shown}
 use Rattle.every.specs.declared.Walked.{Walked}
-use Rattle.every.specs.declared.AllCount.{AllCount}
-use Rattle.every.specs.All.{shown, Gathered, gather, none_but, gathered, counts_of, unless_refused}
+use Rattle.every.specs.declared.Listed.{Listed}
+use Rattle.every.specs.All.{shown, Gathered, gather, none_but, gathered, counts_of}
 
 -- where the records stand
 abbrev pub records_from : ℕ
@@ -80,30 +75,26 @@ pub record WalkAsked (file : List ℕ) (table : SignFile) (msg rows all : List �
   pub walkable : Walkable file table msg all
   pub rowed : RowRoom (length msg) rows
 
-abbrev pub refused_by : Option Refusal → OptRefusal
-refused_by none = None
-refused_by (some r) = Some r
-
-abbrev pub walked_to : ℕ → ℕ → Option Refusal → Walked
-walked_to a k r = record { answers = a; records = k; refused = refused_by r }
-
 -- what was gathered, as the numbers tell it
 abbrev pub told : Walked → List ℕ → Gathered
-told r l = record { answers = showns_of l r.answers; records = spans_of (drop records_from l) r.records; refusal = fault_is r.refused }
+told r l = record { answers = showns_of l r.answers; records = spans_of (drop records_from l) r.records; refusal = r.refused }
 
 -- all that there is was gathered; all was there before it, and all' is after it
 pub record Walks (file : List ℕ) (table : SignFile) (msg all all' : List ℕ) (r : Walked) : Type 0 where
   pub ends : told r all' ≡ gather (pages (board_in file msg table.config) (items table.config msg))
   pub long : length all' ≡ length all
 
--- the same with a answers and k records lent
-pub record WalksWith (file : List ℕ) (table : SignFile) (msg : List ℕ) (a k : ℕ) (all all' : List ℕ) (r : Walked) : Type 0 where
-  pub ends : told r all'
-      ≡ pick (ltb a 1026) (none_but (refusal 4 0 0 0))
-      (pick (ltb k 2048) (none_but (refusal 4 0 0 0)) (gather (pages (board_in file msg table.config) (items table.config msg))))
-  pub long : length all' ≡ length all
-
 -- ---- the call
+
+-- a sign file and a message that are admitted, with a answers and k records lent
+pub record OpenedTo (file msg : List ℕ) (a k : ℕ) (table : SignFile) : Type 0 where
+  pub opened : AcceptedTable file table
+  pub small : length msg ≤ 2048
+  pub is : gathered file msg a k ≡ gather (pages (board_in file msg table.config) (items table.config msg))
+
+-- so they are, or this refusal comes before any answer
+abbrev pub Opened : List ℕ → List ℕ → ℕ → ℕ → Result SignFile Refusal → Type 0
+Opened file msg a k r = MatchResult r (OpenedTo file msg a k) (λ x. gathered file msg a k ≡ none_but x)
 
 -- room for the answers, and for the records of a message that is not too long
 pub record LongRoom (msg all : List ℕ) : Type 0 where
@@ -114,21 +105,20 @@ pub record Gathers (file msg : List ℕ) (a k : ℕ) (all all' : List ℕ) (r : 
   pub ends : told r all' ≡ gathered file msg a k
   pub long : length all' ≡ length all
 
--- the call's answer, and how many answers and records it writes
-abbrev pub settled_on : Option Refusal → ℕ → ℕ → AllCount
-settled_on none a k = record { counts = counts_of none a k; answers = a; records = k }
-settled_on (some r) a k = record { counts = counts_of (some r) a k; answers = 0; records = 0 }
+-- the call's answer
+abbrev pub listed_by : Walked → Result Listed Refusal
+listed_by w = counts_of w.refused w.answers w.records
 
-abbrev pub settled_by : Walked → AllCount
-settled_by w = settled_on (fault_is w.refused) w.answers w.records
+-- the answers and records that it counts stand in the slice, and fit what is lent
+pub record Written (g : Gathered) (a k : ℕ) (all : List ℕ) (n : Listed) : Type 0 where
+  pub answers : showns_of all n.answers ≡ g.answers
+  pub records : spans_of (drop records_from all) n.records ≡ g.records
+  pub few_answers : n.answers ≤ 1026
+  pub few_records : n.records ≤ 2048
+  pub answers_fit : n.answers ≤ a
+  pub records_fit : n.records ≤ k
+  pub stand : records_from + span_width * n.records ≤ length all
 
--- what it writes stands in the slice, and fits what is lent
-pub record Settles (file msg : List ℕ) (a k : ℕ) (all all' : List ℕ) (r : AllCount) : Type 0 where
-  pub counts : r.counts ≡ counts_of (gathered file msg a k).refusal (length (gathered file msg a k).answers) (length (gathered file msg a k).records)
-  pub answers : showns_of all' r.answers ≡ unless_refused (gathered file msg a k).refusal (gathered file msg a k).answers
-  pub records : spans_of (drop records_from all') r.records ≡ unless_refused (gathered file msg a k).refusal (gathered file msg a k).records
-  pub few_answers : r.answers ≤ 1026
-  pub few_records : r.records ≤ 2048
-  pub answers_fit : r.answers ≤ a
-  pub records_fit : r.records ≤ k
-  pub stand : records_from + span_width * r.records ≤ length all'
+pub record Settles (file msg : List ℕ) (a k : ℕ) (all : List ℕ) (r : Result Listed Refusal) : Type 0 where
+  pub counts : r ≡ counts_of (gathered file msg a k).refusal (length (gathered file msg a k).answers) (length (gathered file msg a k).records)
+  pub written : IfOk r (Written (gathered file msg a k) a k all)

@@ -2,14 +2,13 @@
 #![tactic(auto)]
 
 ghost use Rattle.std.specs.Prelude.{◌≡◌, ◌+◌, ◌*◌, ◌≤◌, ◌<◌, length, drop};
-ghost use Rattle.std.proofs.Math.Option.{none, some};
-ghost use Rattle.refusal.specs.Refusals.{refusal as refusal_of};
-ghost use Rattle.rows.specs.Rows.{span_at};
-ghost use Rattle.every.specs.Walk.{shown_from, shown_at, ShownRoom, ShownPut, Countable, ShownAs, walked_to, WalkAsked, Walkable, Walks, WalksWith, LongRoom, Gathers, settled_by, Settles};
+ghost use Rattle.rows.specs.Rows.{row_width, span_at};
+ghost use Rattle.every.specs.Walk.{shown_from, shown_at, ShownRoom, ShownPut, Countable, ShownAs, Opened, WalkAsked, Walkable, Walks, LongRoom, Gathers, listed_by, Settles};
 
 use layout::Span;
 use pages::{NextPage, PageShown};
 use refusal::{OptRefusal, Refusal};
+use rows::{ROW_ROOM, SHORT_ROW_ROOM};
 use sign::SignFile;
 
 // An answer of a listing. kind: 1 on, 2 off; its duration in tenths of a second; the number of its first record, and how many it has.
@@ -22,11 +21,11 @@ pub struct Shown {
     pub count: u16,
 }
 
-// The counts of answers and of records, or the first refusal.
+// The counts of answers and of records.
 #[derive(Clone, Copy)]
-pub enum Counts {
-    Listed(u16, u16),
-    Refused(Refusal),
+pub struct Listed {
+    pub answers: u16,
+    pub records: u16,
 }
 
 // What a walk has shown: how many answers and records, and the refusal that ended it, if any.
@@ -34,7 +33,7 @@ pub enum Counts {
 pub struct Walked {
     pub answers: usize,
     pub records: usize,
-    pub refused: OptRefusal,
+    pub refused: Option<Refusal>,
 }
 
 // The numbers of an answer, and where the records begin: there is room for 1,026 answers before them.
@@ -105,40 +104,6 @@ fn shown_by(x: PageShown, n: usize) -> Shown
     }
 }
 
-// What was walked: to the end, and to a refusal.
-fn ended(answers: usize, records: usize) -> Walked
-    ensures { result ≡ walked_to answers records none }
-{
-    Walked {
-        answers,
-        records,
-        refused: OptRefusal::None,
-    }
-}
-
-fn stopped(answers: usize, records: usize, r: Refusal) -> Walked
-    ensures { result ≡ walked_to answers records (some r) }
-{
-    Walked {
-        answers,
-        records,
-        refused: OptRefusal::Some(r),
-    }
-}
-
-// 4: too few answers or records are lent.
-fn no_room() -> Walked
-    ensures { result ≡ walked_to 0 0 (some (refusal_of 4 0 0 0)) }
-{
-    let r = Refusal {
-        number: 4,
-        start: 0,
-        length: 0,
-        detail: 0,
-    };
-    stopped(0, 0, r)
-}
-
 // Answer after answer, up to the end or the first refusal: each has the array behind the records of those before.
 fn walk(file: &[u8], table: SignFile, msg: &[u8], rows: &mut [u16], all: &mut [u16]) -> Walked
     requires { WalkAsked file.now table msg.now rows.old all.old }
@@ -158,95 +123,96 @@ fn walk(file: &[u8], table: SignFile, msg: &[u8], rows: &mut [u16], all: &mut [u
                 i += 1;
             }
             NextPage::End => {
-                return ended(i, n);
+                return Walked {
+                    answers: i,
+                    records: n,
+                    refused: None,
+                };
             }
             NextPage::Refused(r) => {
-                return stopped(i, n, r);
+                return Walked {
+                    answers: i,
+                    records: n,
+                    refused: Some(r),
+                };
             }
         }
     }
 }
 
 // The same, with rows for as many spans as the message can have: one for each of its bytes.
-fn paged(file: &[u8], table: SignFile, msg: &[u8], all: &mut [u16]) -> Walked
-    requires { Walkable file.now table msg.now all.old }
+fn paged<const N: usize>(file: &[u8], table: SignFile, msg: &[u8], all: &mut [u16]) -> Walked
+    requires walkable { Walkable file.now table msg.now all.old }
+    requires rowed { row_width * length msg.now ≤ N }
+    requires fits { N < 65536 }
     ensures { Walks file.now table msg.now all.old all.new result }
 {
-    if msg.len() <= 256 {
-        let mut few = [0u16; rows::SHORT_ROW_ROOM];
-        return walk(file, table, msg, &mut few, all);
-    }
-    let mut rows = [0u16; rows::ROW_ROOM];
+    let mut rows = [0u16; N];
     walk(file, table, msg, &mut rows, all)
 }
 
-// 4, the call's own refusal, and the walk: sign file and message are admitted.
-fn with_room(
-    file: &[u8],
-    table: SignFile,
-    msg: &[u8],
-    answers: usize,
-    records: usize,
-    all: &mut [u16],
-) -> Walked
-    requires { Walkable file.now table msg.now all.old }
-    ensures { WalksWith file.now table msg.now answers records all.old all.new result }
+// The fonts of the sign file, or the refusals before any answer: those of every call, and 4, where too few answers or records are lent.
+fn opened(file: &[u8], msg: &[u8], answers: usize, records: usize) -> Result<SignFile, Refusal>
+    ensures { Opened file.now msg.now answers records result }
 {
-    if answers < 1026 {
-        return no_room();
+    let call = admit::admit(file, msg);
+    if let OptRefusal::Some(r) = call.denied {
+        return Err(r);
     }
-    if records < 2048 {
-        return no_room();
+    if answers < 1026 || records < 2048 {
+        return Err(Refusal {
+            number: 4,
+            start: 0,
+            length: 0,
+            detail: 0,
+        });
     }
-    paged(file, table, msg, all)
+    Ok(call.table)
 }
 
 // All answers before the first refusal, if there is one, for slices of so many answers and records: answers stand first in the slice, their
-// records from number 4,104 on.
+// records from number 4,104 on. The rows of a short message take less of the stack.
 pub fn gather(file: &[u8], msg: &[u8], answers: usize, records: usize, all: &mut [u16]) -> Walked
     requires { LongRoom msg.now all.old }
     ensures { Gathers file.now msg.now answers records all.old all.new result }
 {
-    let call = admit::admit(file, msg);
-    let denied = call.denied;
-    match denied {
-        OptRefusal::Some(r) => stopped(0, 0, r),
-        OptRefusal::None => with_room(file, call.table, msg, answers, records, all),
-    }
-}
-
-// The answer of the call, and how many answers and records it writes: none where it is a refusal.
-#[derive(Clone, Copy)]
-pub struct AllCount {
-    pub counts: Counts,
-    pub answers: usize,
-    pub records: usize,
-}
-
-fn settled(w: Walked) -> AllCount
-    requires { (w.answers < 65536) × (w.records < 65536) }
-    ensures { result ≡ settled_by w }
-{
-    let refused = w.refused;
-    match refused {
-        OptRefusal::Some(r) => AllCount {
-            counts: Counts::Refused(r),
+    match opened(file, msg, answers, records) {
+        Err(r) => Walked {
             answers: 0,
             records: 0,
+            refused: Some(r),
         },
-        OptRefusal::None => AllCount {
-            counts: Counts::Listed(w.answers as u16, w.records as u16),
-            answers: w.answers,
-            records: w.records,
-        },
+        Ok(table) if msg.len() <= 256 => paged::<SHORT_ROW_ROOM>(file, table, msg, all),
+        Ok(table) => paged::<ROW_ROOM>(file, table, msg, all),
     }
 }
 
-// The call's answer, with what it writes in the slice.
-pub fn counted(file: &[u8], msg: &[u8], answers: usize, records: usize, all: &mut [u16]) -> AllCount
+impl Walked {
+    // The counts of what was walked, or the refusal that ended it.
+    fn counts(self) -> Result<Listed, Refusal>
+        requires { (self.answers < 65536) × (self.records < 65536) }
+        ensures { result ≡ listed_by self }
+    {
+        match self.refused {
+            Some(r) => Err(r),
+            None => Ok(Listed {
+                answers: self.answers as u16,
+                records: self.records as u16,
+            }),
+        }
+    }
+}
+
+// The call's answer, with the answers and records that it counts in the slice.
+pub fn counted(
+    file: &[u8],
+    msg: &[u8],
+    answers: usize,
+    records: usize,
+    all: &mut [u16],
+) -> Result<Listed, Refusal>
     requires { LongRoom msg.now all.old }
-    ensures { Settles file.now msg.now answers records all.old all.new result }
+    ensures { Settles file.now msg.now answers records all.new result }
 {
-    let w = gather(file, msg, answers, records, all);
-    settled(w)
+    gather(file, msg, answers, records, all).counts()
 }

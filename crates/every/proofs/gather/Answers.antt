@@ -1,11 +1,8 @@
-use Rattle.every.proofs.Laws.{call_denied, call_walkable, call_gathered}
+use Rattle.std.proofs.Common.{refl, sym}
+use Rattle.rows.specs.Rows.{spans_of}
+use Rattle.every.specs.Walk.{showns_of}
 use Rattle.every.proofs.gather.Goals as goal
 
-pub with_room-requires : goal.with_room-requires
-with_room-requires c = search call_walkable
-
-pub returns-in-Some : goal.returns-in-Some
-returns-in-Some c = search call_denied
-
-pub returns-in-None : goal.returns-in-None
-returns-in-None c = search call_gathered
+pub returns-in-Err : goal.returns-in-Err
+unfolding showns_of spans_of
+returns-in-Err c = record { ends = sym c.in-Err.ensures; long = refl }
