@@ -26,7 +26,7 @@ use Rattle.every.specs.declared.Shown.{Shown}
 use Rattle.every.specs.declared.Listed.{Listed}
 use Rattle.every.specs.All.{shown, answers_in, records_in, refusal_in, Gathered, none_but, gather, gathered_on, gathered, listed_as, counts_of, unless_refused, over, listing_all, answers_after, records_after}
 use Rattle.every.specs.Calls.{answer_told, records_told, answer_at, Roomy, AsCalled, FirstRefused, WholeListing}
-use Rattle.every.proofs.Laws.{Fits, gathered_fits}
+use Rattle.every.proofs.Laws.{counts_listed, counts_refused, Fits, gathered_fits}
 
 -- ---- answers of a list of pages
 
@@ -239,23 +239,14 @@ module _ (file msg : List ℕ) (ys : List Shown) (zs : List Span) where
     answers : length g.answers ≡ N
     records : length g.records ≡ K
 
-  ended_on : (o : Option Refusal) (a k N K : ℕ) → counts_of o a k ≡ Ok (listed_as N K) → (o ≡ None) × (a ≡ N) × (k ≡ K)
-  ended_on None a k n m e =
-      let q : listed_as a k ≡ listed_as n m = cc in (refl, ap (λ (x : Listed). x.answers) q, ap (λ (x : Listed). x.records) q)
-  ended_on (Some x) a k n m e = absurd (let z : ◌≡◌ {A = ℕ} 0 1 = cc in omega arith)
-
   ended : (N K : ℕ) → listing_all file msg ys zs ≡ Ok (listed_as N K) → Ended N K
   ended N K e =
-      let h : (g.refusal ≡ None) × (length g.answers ≡ N) × (length g.records ≡ K) =
-      ended_on g.refusal (length g.answers) (length g.records) N K (sym counts_is ∙ e) in
-      record { fine = h.0; answers = h.1; records = h.2 }
-
-  stopped_on : (o : Option Refusal) (a k : ℕ) (x : Refusal) → counts_of o a k ≡ Err x → o ≡ Some x
-  stopped_on None a k x e = absurd (let z : ◌≡◌ {A = ℕ} 0 1 = cc in omega arith)
-  stopped_on (Some r) a k x e = cc
+      let h : (g.refusal ≡ None) × (listed_as (length g.answers) (length g.records) ≡ listed_as N K) =
+      counts_listed g.refusal (length g.answers) (length g.records) (sym counts_is ∙ e) in
+      record { fine = h.0; answers = ap (λ (n : Listed). n.answers) h.1; records = ap (λ (n : Listed). n.records) h.1 }
 
   stopped : (x : Refusal) → listing_all file msg ys zs ≡ Err x → g.refusal ≡ Some x
-  stopped x e = stopped_on g.refusal (length g.answers) (length g.records) x (sym counts_is ∙ e)
+  stopped x e = counts_refused g.refusal (length g.answers) (length g.records) (sym counts_is ∙ e)
 
   calls_on : (N K : ℕ) → Ended N K → Ways file msg (length ys) (length zs) g → AsCalled file msg (answers_after file msg ys zs) (records_after file msg ys zs) N K
   calls_on N K e (early x p f) =

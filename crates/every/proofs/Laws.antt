@@ -6,7 +6,7 @@ use native.Mathlib.Numerals.{add-one}
 use Rattle.std.proofs.Common.{inl, inr}
 use mathlib.Core.Path.{◌≡◌, refl, sym, ◌∙◌, ap, subst}
 use mathlib.Core.Bool.{Bool, true, false}
-use Rattle.std.specs.Prelude.{◌⊎◌, Option, Some, None, Result}
+use Rattle.std.specs.Prelude.{◌⊎◌, Option, Some, None, Result, Ok, Err}
 use mathlib.Core.List.{List, [], ◌∷◌, ◌++◌, append_assoc, append-nil}
 use lib.Dec.{ltb}
 use lib.ListN.{length, set, take, drop, length-append, length-drop, length-set, drop_of_length-le}
@@ -486,6 +486,15 @@ module _ (file msg : List ℕ) {x : Admitted} (e : x ≡ handed (admission file 
         }
 
 -- ---- what it writes
+
+-- the answer says whether there was a refusal
+pub counts_listed : (o : Option Refusal) (a k : ℕ) {n : Listed} → counts_of o a k ≡ Ok n → (o ≡ None) × (listed_as a k ≡ n)
+counts_listed None a k e = (refl, cc)
+counts_listed (Some r) a k e = absurd (cc)
+
+pub counts_refused : (o : Option Refusal) (a k : ℕ) {x : Refusal} → counts_of o a k ≡ Err x → o ≡ Some x
+counts_refused None a k e = absurd (cc)
+counts_refused (Some r) a k e = cc
 
 -- what is gathered for slices that are lent: a answers and k records
 pub record Fits (a k : ℕ) (msg : List ℕ) (g : Gathered) : Type 0 where

@@ -1,13 +1,19 @@
 // The whole listing in one call: it writes all answers of a message and their records to two lent slices.
 #![tactic(auto)]
 
-ghost use Rattle.std.specs.Prelude.{◌≡◌, ◌++◌, ◌+◌, ◌*◌, ◌≤◌, length, drop};
+ghost use Rattle.std.specs.Prelude.{◌≡◌, ◌++◌, ◌+◌, ◌*◌, ◌≤◌, ◌<◌, length, drop};
 ghost use Rattle.rows.specs.Rows.{spans_of};
 ghost use Rattle.every.specs.All.{listing_all, answers_after, records_after};
 ghost use Rattle.every.specs.Walk.{showns_of};
 
-use every::{Counts, Shown};
+use every::{Listed, Shown};
 use layout::Span;
+use refusal::Refusal;
+
+// The numbers of all answers, and of the records of a message twice: a short one has at most 256 bytes.
+const SHORT_ROOM: usize = 11784;
+
+const ROOM: usize = 65544;
 
 // The first n answers of a slice of numbers go to the lent slice.
 fn write_answers(answers: &mut [Shown], all: &[u16], n: usize)
@@ -33,45 +39,40 @@ fn write_records(recs: &mut [Span], all: &[u16], n: usize)
     }
 }
 
-// The whole listing of a short message.
-fn list_all_short(file: &[u8], message: &[u8], answers: &mut [Shown], recs: &mut [Span]) -> Counts
-    requires { length message.now ≤ 256 }
+// The whole listing, in an array of N numbers for all that it writes. A refusal writes nothing.
+fn list_all_in<const N: usize>(
+    file: &[u8],
+    message: &[u8],
+    answers: &mut [Shown],
+    recs: &mut [Span],
+) -> Result<Listed, Refusal>
+    requires answers { 4104 ≤ N }
+    requires records { length message.now ≤ 2048 → 4104 + 2 * (15 * length message.now) ≤ N }
+    requires fits { N < 131072 }
     ensures { (result ≡ listing_all file.now message.now answers.old recs.old)
         × (answers.new ≡ answers_after file.now message.now answers.old recs.old)
         × (recs.new ≡ records_after file.now message.now answers.old recs.old) }
 {
-    let mut all = [0u16; 11784];
-    let a = answers.len();
-    let n = recs.len();
-    let c = every::counted(file, message, a, n, &mut all);
-    write_answers(answers, &all, c.answers);
-    write_records(recs, &all, c.records);
-    c.counts
+    let mut all = [0u16; N];
+    let listed = every::counted(file, message, answers.len(), recs.len(), &mut all)?;
+    write_answers(answers, &all, usize::from(listed.answers));
+    write_records(recs, &all, usize::from(listed.records));
+    Ok(listed)
 }
 
-// The whole listing of any message.
-fn list_all_long(file: &[u8], message: &[u8], answers: &mut [Shown], recs: &mut [Span]) -> Counts
-    ensures { (result ≡ listing_all file.now message.now answers.old recs.old)
-        × (answers.new ≡ answers_after file.now message.now answers.old recs.old)
-        × (recs.new ≡ records_after file.now message.now answers.old recs.old) }
-{
-    let mut all = [0u16; 65544];
-    let a = answers.len();
-    let n = recs.len();
-    let c = every::counted(file, message, a, n, &mut all);
-    write_answers(answers, &all, c.answers);
-    write_records(recs, &all, c.records);
-    c.counts
-}
-
-// The whole listing in one call: sign file, message, the lent slice of answers and that of records.
-pub fn list_all(file: &[u8], message: &[u8], answers: &mut [Shown], recs: &mut [Span]) -> Counts
+// The whole listing in one call: sign file, message, the lent slice of answers and that of records. A short message takes less of the stack.
+pub fn list_all(
+    file: &[u8],
+    message: &[u8],
+    answers: &mut [Shown],
+    recs: &mut [Span],
+) -> Result<Listed, Refusal>
     ensures { (result ≡ listing_all file.now message.now answers.old recs.old)
         × (answers.new ≡ answers_after file.now message.now answers.old recs.old)
         × (recs.new ≡ records_after file.now message.now answers.old recs.old) }
 {
     if message.len() <= 256 {
-        return list_all_short(file, message, answers, recs);
+        return list_all_in::<SHORT_ROOM>(file, message, answers, recs);
     }
-    list_all_long(file, message, answers, recs)
+    list_all_in::<ROOM>(file, message, answers, recs)
 }
