@@ -3,99 +3,89 @@
 
 ghost use Rattle.std.specs.Prelude.{◌≡◌, ◌∷◌, [], false};
 ghost use Rattle.std.proofs.Math.Option.{none, some};
-ghost use Rattle.font.specs.Character.{letters_at};
-ghost use Rattle.font.specs.Widths.{Widths};
 ghost use Rattle.layout.specs.Fonts.{chars_of, width_of};
-ghost use Rattle.rows.specs.Measured.{flag as flag_of, row_by};
-ghost use Rattle.meter.specs.Gauges.{AcceptedTable, WidthsOf, part_codes, EntryIn, CodeFits, WidthFound, font_at, version_number, fault_by, gauge_for, GaugedIn, GaugedBy, RowTaken};
+ghost use Rattle.meter.specs.Gauges.{font_letters, FontWidths, WidthsOf, part_codes, EntryIn, CodeFits, WidthFound, font_at, version_fault, missing_fault, gauge_for, GaugedIn, GaugedBy, RowTaken};
 
+mod call;
+
+pub use call::Call;
 use font::{FontFound, Looked, Measure};
 use layout::Entry;
 use rows::{Fault, Gauge, Row};
-use sign::{FontEntry, SignFile};
+use sign::FontEntry;
 use value::OptNum;
 
-fn flag(o: OptNum) -> u16
-    ensures { result ≡ flag_of o }
-{
-    match o {
-        OptNum::Some(_) => 1,
-        OptNum::None => 0,
-    }
-}
-
 // The width of a character alone.
-fn hex_width(
-    file: &[u8],
-    f: FontEntry,
-    capitals: bool,
-    widths: &[u16],
-    code: u16,
-    spacing: u16,
-) -> Looked
-    requires { Widths (letters_at file.now f capitals) widths.now }
-    ensures { WidthFound (letters_at file.now f capitals) spacing (code ∷ []) result }
+#[tactic(auto, unfolding(font::specs::Measure::text_width, font::specs::Measure::width_after, font::specs::Measure::looked_up, font::specs::Character::character_in))]
+fn hex_width(call: &Call, f: FontEntry, widths: &[u16], code: u16, spacing: u16) -> Looked
+    requires { FontWidths call.now f widths.now }
+    ensures { WidthFound (font_letters call.now f) spacing (code ∷ []) result }
 {
-    font::with_character(file, f, capitals, widths, 0, 0, code as u32, spacing)
+    let capitals = call.table.config.capitals;
+    let code = u32::from(code);
+    font::with_character(call.file, f, capitals, widths, 0, 0, code, spacing)
 }
 
 // The width of a text of the message.
-fn part_width(
-    file: &[u8],
-    f: FontEntry,
-    capitals: bool,
-    widths: &[u16],
-    msg: &[u8],
-    e: Entry,
-    spacing: u16,
-) -> Looked
-    requires widths { Widths (letters_at file.now f capitals) widths.now }
-    requires entry_in { EntryIn msg.now e × (e.kind ≡ 0) }
-    ensures { WidthFound (letters_at file.now f capitals) spacing (part_codes msg.now e) result }
+fn part_width(call: &Call, f: FontEntry, widths: &[u16], e: Entry, spacing: u16) -> Looked
+    requires widths { FontWidths call.now f widths.now }
+    requires entry_in { EntryIn call.now e × (e.kind ≡ 0) }
+    ensures { WidthFound (font_letters call.now f) spacing (part_codes call.now.msg.now e) result }
 {
-    let start = e.start as usize;
-    let end = start + e.len as usize;
-    font::text_width(file, f, capitals, widths, &msg[start..end], spacing)
+    let start = usize::from(e.start);
+    let end = start + usize::from(e.len);
+    let capitals = call.table.config.capitals;
+    font::text_width(
+        call.file,
+        f,
+        capitals,
+        widths,
+        &call.msg[start..end],
+        spacing,
+    )
 }
 
 // The width of what a span prints.
-fn span_width(
-    file: &[u8],
-    f: FontEntry,
-    capitals: bool,
-    widths: &[u16],
-    msg: &[u8],
-    e: Entry,
-    spacing: u16,
-) -> Looked
-    requires widths { Widths (letters_at file.now f capitals) widths.now }
-    requires entry_in { EntryIn msg.now e }
-    ensures { WidthFound (letters_at file.now f capitals) spacing (chars_of msg.now e) result }
+#[tactic(auto, unfolding(crate::specs::Gauges::part_codes, font::specs::Measure::text_width, font::specs::Measure::width_after, font::specs::Measure::looked_up))]
+fn span_width(call: &Call, f: FontEntry, widths: &[u16], e: Entry, spacing: u16) -> Looked
+    requires widths { FontWidths call.now f widths.now }
+    requires entry_in { EntryIn call.now e }
+    ensures { WidthFound (font_letters call.now f) spacing (chars_of call.now.msg.now e) result }
 {
-    if e.kind == 0 {
-        return part_width(file, f, capitals, widths, msg, e, spacing);
-    }
-    if e.kind == 1 {
-        return hex_width(file, f, capitals, widths, e.code, spacing);
-    }
-    Looked {
-        measure: Measure::Width(0),
-        count: 0,
+    match e.kind {
+        0 => part_width(call, f, widths, e, spacing),
+        1 => hex_width(call, f, widths, e.code, spacing),
+        _ => Looked {
+            measure: Measure::Width(0),
+            count: 0,
+        },
     }
 }
 
-// 11 where the version ids differ, else 0.
-fn version_number(version: OptNum, id: u16) -> u8
-    ensures { result ≡ version_number version id }
+// 11 where the version ids differ.
+fn version_fault(version: OptNum, id: u16) -> Option<Fault>
+    ensures { result ≡ version_fault version id }
 {
     match version {
-        OptNum::Some(v) => {
-            if v == id {
-                return 0;
-            }
-            11
-        }
-        OptNum::None => 0,
+        OptNum::Some(v) if v != id => Some(Fault {
+            number: 11,
+            detail: 0,
+        }),
+        _ => None,
+    }
+}
+
+// 12 with its code where a character is missing.
+fn missing_fault(m: Measure) -> Option<Fault>
+    requires { CodeFits m }
+    ensures { result ≡ missing_fault m }
+{
+    match m {
+        Measure::Width(_) => None,
+        Measure::Missing(code) => Some(Fault {
+            number: 12,
+            detail: code as u16,
+        }),
     }
 }
 
@@ -108,29 +98,6 @@ fn width_of(m: Measure) -> u32
     }
 }
 
-// 11, or 12 with its code where a character is missing.
-fn fault_by(version: u8, m: Measure) -> Fault
-    requires { CodeFits m }
-    ensures { result ≡ fault_by version m }
-{
-    if version != 0 {
-        return Fault {
-            number: version,
-            detail: 0,
-        };
-    }
-    match m {
-        Measure::Width(_) => Fault {
-            number: 0,
-            detail: 0,
-        },
-        Measure::Missing(code) => Fault {
-            number: 12,
-            detail: code as u16,
-        },
-    }
-}
-
 // What the fonts say of a span, and how many characters its measure looked up.
 #[derive(Clone, Copy)]
 pub struct Gauged {
@@ -139,32 +106,22 @@ pub struct Gauged {
 }
 
 // A span in a font.
-fn gauge_in(
-    file: &[u8],
-    f: FontEntry,
-    capitals: bool,
-    widths: &[u16],
-    msg: &[u8],
-    e: Entry,
-) -> Gauged
-    requires widths { Widths (letters_at file.now f capitals) widths.now }
-    requires entry_in { EntryIn msg.now e }
-    ensures { GaugedIn msg.now e capitals (some (font_at file.now f)) result }
+#[tactic(auto, using(crate::proofs::Laws::fault_parts), unfolding(crate::specs::Gauges::gauge_for, crate::specs::Gauges::font_at, layout::specs::Fonts::measure_in, font::specs::Character::letters_at))]
+fn gauge_in(call: &Call, f: FontEntry, widths: &[u16], e: Entry) -> Gauged
+    requires widths { FontWidths call.now f widths.now }
+    requires entry_in { EntryIn call.now e }
+    ensures { GaugedIn call.now e (some (font_at call.now.file.now f)) result }
 {
     let st = e.state;
-    let char_spacing = st.char_spacing;
-    let version = st.version;
-    let spacing = layout::unwrap_or(char_spacing, base::wide16(f.char_spacing));
-    let looked = span_width(file, f, capitals, widths, msg, e, spacing);
+    let spacing = layout::unwrap_or(st.char_spacing, u16::from(f.char_spacing));
+    let looked = span_width(call, f, widths, e, spacing);
     let m = looked.measure;
-    let fault = fault_by(version_number(version, f.version_id), m);
     let gauge = Gauge {
         spacing,
-        height: base::wide16(f.height),
-        font_spacing: base::wide16(f.line_spacing),
+        height: u16::from(f.height),
+        font_spacing: u16::from(f.line_spacing),
         width: width_of(m),
-        fault: fault.number,
-        detail: fault.detail,
+        fault: version_fault(st.version, f.version_id).or(missing_fault(m)),
     };
     Gauged {
         gauge,
@@ -173,75 +130,46 @@ fn gauge_in(
 }
 
 // A span whose font is not defined.
+#[tactic(auto, unfolding(crate::specs::Gauges::gauge_for))]
 fn no_font(e: Entry) -> Gauge
     ensures { result ≡ gauge_for [] e false none }
 {
     let st = e.state;
-    let char_spacing = st.char_spacing;
     Gauge {
-        spacing: layout::unwrap_or(char_spacing, 0),
+        spacing: layout::unwrap_or(st.char_spacing, 0),
         height: 0,
         font_spacing: 0,
         width: 0,
-        fault: 10,
-        detail: base::wide16(st.font),
+        fault: Some(Fault {
+            number: 10,
+            detail: u16::from(st.font),
+        }),
     }
 }
 
 // The widths of the font with a number, or zeros.
-pub fn widths_of(file: &[u8], table: SignFile, font: u8) -> [u16; 256]
-    ensures { WidthsOf file.now table font result }
+pub fn widths_of(call: &Call, font: u8) -> [u16; 256]
+    ensures { WidthsOf call.now font result }
 {
-    let mut widths = [0u16; 256];
-    let FontFound::Entry(f) = font::font_numbered(table, font) else {
-        return widths;
-    };
-    font::widths(file, f, table.config.capitals, &mut widths);
+    let mut widths = [0; 256];
+    if let FontFound::Entry(f) = font::font_numbered(call.table, font) {
+        font::widths(call.file, f, call.table.config.capitals, &mut widths);
+    }
     widths
 }
 
 // What the fonts say of a span: widths has those of its font.
-fn gauge_of(file: &[u8], table: SignFile, widths: &[u16], msg: &[u8], e: Entry) -> Gauged
-    requires accepted_table { AcceptedTable file.now table × EntryIn msg.now e }
-    requires widths_of { WidthsOf file.now table e.state.font widths.now }
-    ensures { GaugedBy file.now msg.now e result }
+fn gauge_of(call: &Call, widths: &[u16], e: Entry) -> Gauged
+    requires entry_in { EntryIn call.now e }
+    requires widths_of { WidthsOf call.now e.state.font widths.now }
+    ensures { GaugedBy call.now e result }
 {
-    let st = e.state;
-    match font::font_numbered(table, st.font) {
-        FontFound::Entry(f) => gauge_in(file, f, table.config.capitals, widths, msg, e),
-        FontFound::Absent => {
-            let gauge = no_font(e);
-            Gauged { gauge, looked: 0 }
-        }
-    }
-}
-
-// The row of a span with its gauge.
-fn row_by(e: Entry, g: Gauge) -> Row
-    ensures { result ≡ row_by e g }
-{
-    let st = e.state;
-    let char_spacing = st.char_spacing;
-    let line_spacing = st.line_spacing;
-    Row {
-        kind: e.kind,
-        start: e.start,
-        len: e.len,
-        code: e.code,
-        just_page: base::wide16(st.just_page),
-        just_line: base::wide16(st.just_line),
-        font: base::wide16(st.font),
-        line: st.line,
-        span: st.span,
-        fixed: flag(char_spacing),
-        spacing: g.spacing,
-        led: flag(line_spacing),
-        lead: layout::unwrap_or(line_spacing, 0),
-        height: g.height,
-        font_spacing: g.font_spacing,
-        fault: g.fault,
-        detail: g.detail,
-        width: g.width,
+    match font::font_numbered(call.table, e.state.font) {
+        FontFound::Entry(f) => gauge_in(call, f, widths, e),
+        FontFound::Absent => Gauged {
+            gauge: no_font(e),
+            looked: 0,
+        },
     }
 }
 
@@ -253,15 +181,14 @@ pub struct RowLooked {
 }
 
 // A span's row, for which it is measured once: widths has those of its font.
-pub fn row_of(file: &[u8], table: SignFile, widths: &[u16; 256], msg: &[u8], e: Entry) -> RowLooked
-    requires accepted_table { AcceptedTable file.now table × EntryIn msg.now e }
-    requires widths_of { WidthsOf file.now table e.state.font widths.now }
-    ensures { RowTaken file.now msg.now e result }
+pub fn row_of(call: &Call, widths: &[u16; 256], e: Entry) -> RowLooked
+    requires entry_in { EntryIn call.now e }
+    requires widths_of { WidthsOf call.now e.state.font widths.now }
+    ensures { RowTaken call.now e result }
 {
-    let g = gauge_of(file, table, widths, msg, e);
-    let row = row_by(e, g.gauge);
+    let g = gauge_of(call, widths, e);
     RowLooked {
-        row,
+        row: rows::row_by(e, g.gauge),
         looked: g.looked,
     }
 }

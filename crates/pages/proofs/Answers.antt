@@ -3,10 +3,10 @@ use Prim.Native.Nat.{ℕ, zero, suc, ◌+◌, ◌*◌, ◌≤◌}
 use mathlib.Core.Path.{◌≡◌, refl, sym, ◌∙◌, ap, subst}
 use mathlib.Core.Bool.{Bool, true, false}
 use mathlib.Core.List.{List, [], ◌∷◌}
+use Rattle.std.specs.Prelude.{Result, Ok, Err, IfOk, Option as Maybe, Some as There, None as Gone}
 use native.Mathlib.Omega.{arith}
 use borrow.Author.Tests.{lt-ltb}
 use lib.Dec.{ltb}
-use lib.ListN.{length}
 use Rattle.token.specs.Token.{slices}
 use Rattle.base.specs.Pick.{pick}
 use Rattle.refusal.specs.declared.Refusal.{Refusal}
@@ -25,12 +25,9 @@ use Rattle.page.specs.State.{new_page as new_state, done_after, next_state}
 use Rattle.page.specs.Scan.{fault_is, told as scan_told, items_from}
 use Rattle.rows.specs.Rows.{spans_of}
 use Rattle.pages.specs.declared.PageDone.{PageDone}
-use Rattle.pages.specs.declared.PageEnd.{PageEnd}
-use Rattle.pages.specs.declared.PageEnd.TheVariants.{Refused as RefusedEnd, Ended as EndedPage}
 use Rattle.pages.specs.declared.Pages.{Pages}
-use Rattle.pages.specs.declared.NextPage.{NextPage}
-use Rattle.pages.specs.declared.NextPage.TheVariants.{Page as NextShown, End as NextNone, Refused as NextRefused}
-use Rattle.pages.specs.Pages.{board_in, looked_for, run, turned, page_told, IfPageEnded, PageInMessage, PageRendered, pages_at, state_after, shown_by, off_by, first_of, todo, next_told, InMessage, weight, IfShown, Advances, NextAsked, NextRead}
+use Rattle.pages.specs.declared.PageShown.{PageShown}
+use Rattle.pages.specs.Pages.{board_in, looked_for, run, turned, page_told, PageInMessage, PageRendered, pages_at, state_after, off_shown, off_left, first_of, todo_by, todo, shown_page, on_told, InMessage, weight, Advances, NextAsked, OnRead, NextRead}
 use Rattle.pages.proofs.Laws.{whole_inside}
 
 -- ---- an on page
@@ -64,14 +61,6 @@ module _ (s : Board) (msg : List ℕ) (its : List Item) (a b : ℕ) (st : Render
   pub on_run : q.fault ≡ None → turned s its a b st ≡ run s its q.on q.off st [] 0
   on_run h = scanned ∙ run_told q.fault h
 
--- a page that ended so
-pub shown_refused : (a b : ℕ) {v : PageEnd} {x : Refusal} → v ≡ RefusedEnd x → NextRefused x ≡ shown_by a b v
-shown_refused a b q = rw q
-
-pub shown_page_law : (a b : ℕ) {v : PageEnd} {d : PageDone} {st : PageState} → v ≡ EndedPage d → st ≡ state_after d.more b
-    → NextShown (pages_at d.at d.state a b st) (record { on = true; duration = a; count = d.count; looked = d.looked }) ≡ shown_by a b v
-shown_page_law a b q e = rw (q, e)
-
 -- what follows a page
 new_todo : (s : Board) (msg : List ℕ) (at : ℕ) (st : RenderState) (a b : ℕ)
     → offs b (turned s (items_from s.config at msg) a b st) ≡ todo s msg (pages_at at st a b (new_state (ltb 0 b)))
@@ -87,10 +76,6 @@ after_todo : (s : Board) (msg : List ℕ) (at : ℕ) (st : RenderState) (a b : �
 after_todo s msg at st a b true = new_todo s msg at st a b
 after_todo s msg at st a b false = done_todo s msg at st a b
 
-shown_told : (s : Board) (msg : List ℕ) (a b : ℕ) (l : List ℕ) (v : PageEnd) → page_told s msg a b l v ≡ next_told s msg l (shown_by a b v)
-shown_told s msg a b l (RefusedEnd r) = refl
-shown_told s msg a b l (EndedPage d) = ap (λ (x : List Page). on a (spans_of l d.count) ∷ x) (after_todo s msg d.at d.state a b d.more)
-
 new_weight : (t : Bool) → weight (new_state t) ≤ 3
 new_weight true = omega arith
 new_weight false = omega arith
@@ -103,19 +88,6 @@ after_weight : (m : Bool) (b : ℕ) → weight (state_after m b) ≤ 2 * pick m 
 after_weight true b = new_weight (ltb 0 b)
 after_weight false b = done_weight (ltb 0 b)
 
--- at is the page's place
-shown_advances : (file msg out : List ℕ) (c : Config) (at a b : ℕ) (v : PageEnd) → IfPageEnded (PageInMessage file msg out c at) v
-    → IfShown (Advances file msg out c at 2) (shown_by a b v)
-shown_advances file msg out c at a b (RefusedEnd r) f = tt
-shown_advances file msg out c at a b (EndedPage d) f =
-    record {
-      stands = record { within = f.within; inside = f.inside };
-      less = omega (arith, after_weight d.more b, f.forward);
-      few = f.few;
-      looked = f.looked;
-      short = f.short;
-    }
-
 module _ {file : List ℕ} {table : SignFile} {msg : List ℕ} {p : Pages} {rows out : List ℕ} (asked : NextAsked file table msg p rows out)
     (q : PageScan) (e : scan_told q ≡ scan table.config p.on p.off (items_from table.config p.at msg)) where
   abbrev s : Board
@@ -124,61 +96,118 @@ module _ {file : List ℕ} {table : SignFile} {msg : List ℕ} {p : Pages} {rows
   abbrev its : List Item
   its = items_from table.config p.at msg
 
-  -- answered so in the state on
-  abbrev Reads : List ℕ → List ℕ → NextPage → Type 0
-  Reads rows' out' r = NextRead file table msg p rows out rows' out' (OnState true) r
-
-  pub on_stop : {x : Refusal} → q.fault ≡ Some x → Reads rows out (NextRefused x)
+  pub on_stop : {x : Refusal} → q.fault ≡ Some x → OnRead file table msg p rows out p rows out (Err x)
   on_stop {x} h = record { ends = on_refused s msg its p.on p.off p.render_state q e x h; next = tt; rowed = refl; room = refl }
 
-  pub on_shown : {rows' out' : List ℕ} {v : PageEnd} {r : NextPage} → q.fault ≡ None
-      → PageRendered file table msg p.at p.render_state rows out rows' out' v → r ≡ shown_by q.on q.off v → Reads rows' out' r
-  on_shown {rows'} {out'} {v} h t k =
-      subst (Reads rows' out') (sym k)
-      (record {
-        ends =
-            on_run s msg its p.on p.off p.render_state q e h ∙ t.ends q.on q.off
-            ∙ shown_told s msg q.on q.off out' v;
-        next = shown_advances file msg out' table.config p.at q.on q.off v t.done;
-        rowed = t.rowed;
-        room = t.room;
-      })
+  -- a page ended so
+  module _ {rows' out' : List ℕ} {v : Result PageDone Refusal} (h : q.fault ≡ None)
+      (t : PageRendered file table msg p.at p.render_state rows out rows' out' v) where
+    tells : {u : Result PageDone Refusal} → v ≡ u → turned s its p.on p.off p.render_state ≡ page_told s msg q.on q.off out' u
+    tells g = on_run s msg its p.on p.off p.render_state q e h ∙ t.ends q.on q.off ∙ ap (page_told s msg q.on q.off out') g
+
+    pub on_refuse : {x : Refusal} → v ≡ Err x → OnRead file table msg p rows out p rows' out' (Err x)
+    on_refuse g = record { ends = tells g; next = tt; rowed = t.rowed; room = t.room }
+
+    pub on_page : {d : PageDone} {x : PageState} → v ≡ Ok d → x ≡ state_after d.more q.off
+        → OnRead file table msg p rows out (pages_at d.reached.at d.reached.state q.on q.off x) rows' out'
+        (Ok (record { on = true; duration = q.on; count = d.reached.count; looked = d.reached.looked }))
+    on_page {d} g k =
+        let f : PageInMessage file msg out' table.config p.at d =
+        subst (λ (r : Result PageDone Refusal). IfOk r (PageInMessage file msg out' table.config p.at)) g t.done in
+        record {
+          ends =
+              tells g
+              ∙ ap (λ (x : List Page). on q.on (spans_of out' d.reached.count) ∷ x)
+              (after_todo s msg d.reached.at d.reached.state q.on q.off d.more
+              ∙ ap (λ (x : PageState). todo s msg (pages_at d.reached.at d.reached.state q.on q.off x)) (sym k));
+          next =
+              record {
+                stands = record { within = f.within; inside = f.inside };
+                less = rw k (omega (arith, after_weight d.more q.off, f.forward));
+                few = f.few;
+                looked = f.looked;
+                short = f.short;
+              };
+          rowed = t.rowed;
+          room = t.room;
+        }
 
 -- ---- the next answer
 
-module _ {file : List ℕ} {table : SignFile} {msg : List ℕ} {p : Pages} {rows out rows' out' : List ℕ} {r : NextPage} where
-  pub next_on : {b : Bool} → p.page_state ≡ OnState b → NextRead file table msg p rows out rows' out' (OnState true) r
-      → NextRead file table msg p rows out rows' out' p.page_state r
-  next_on q h =
-      subst (λ (x : PageState). NextRead file table msg p rows out rows' out' x r) (sym q)
-      (record { ends = h.ends; next = h.next; rowed = h.rowed; room = h.room })
+module _ {file : List ℕ} {table : SignFile} {msg : List ℕ} {p : Pages} {rows out : List ℕ} where
+  -- after an on page
+  module _ {p' : Pages} {rows' out' : List ℕ} {b : Bool} {r : Result PageShown Refusal} (q : p.page_state ≡ OnState b)
+      (h : OnRead file table msg p rows out p' rows' out' r) where
+    -- so the next answer is
+    abbrev Tells : Result (Maybe PageShown) Refusal → Type 0
+    Tells = NextRead file table msg p rows out p' rows' out'
+
+    abbrev sign : Board
+    sign = board_in file msg table.config
+
+    on_ends : {u : Result PageShown Refusal} → r ≡ u → todo sign msg p ≡ on_told sign msg out' p' u
+    on_ends k = ap (todo_by sign msg p) q ∙ h.ends ∙ ap (on_told sign msg out' p') k
+
+    pub next_refused : {x : Refusal} → r ≡ Err x → Tells (Err x)
+    next_refused k = record { ends = on_ends k; next = tt; rowed = h.rowed; room = h.room }
+
+    pub next_shown : {x : PageShown} → r ≡ Ok x → Tells (Ok (There x))
+    next_shown {x} k =
+        record {
+          ends = on_ends k;
+          next =
+              subst (λ (w : ℕ). Advances file msg out' table.config p.at w p' x) (sym (ap weight q))
+              (subst (λ (u : Result PageShown Refusal). IfOk u (Advances file msg out' table.config p.at 2 p')) k h.next);
+          rowed = h.rowed;
+          room = h.room;
+        }
 
 module _ {file : List ℕ} {table : SignFile} {msg : List ℕ} {p : Pages} {rows out : List ℕ} (z : NextAsked file table msg p rows out) where
-  -- answered so in a state, with nothing written
-  abbrev Tells : PageState → NextPage → Type 0
-  Tells = NextRead file table msg p rows out rows out
+  abbrev board : Board
+  board = board_in file msg table.config
 
-  -- an off page in a state
-  abbrev off_in : PageState → NextPage
-  off_in x = NextShown (pages_at p.at p.render_state p.on p.off (next_state x)) (record { on = false; duration = p.off; count = 0; looked = 0 })
+  -- what an off page leaves
+  abbrev left : PageState → Pages
+  left x = pages_at p.at p.render_state p.on p.off (next_state x)
 
-  stays : {x : PageState} → InMessage table.config (length msg) (pages_at p.at p.render_state p.on p.off x)
-  stays = record { within = z.stands.within; inside = z.stands.inside }
+  off_ends : (b : Bool) → todo_by board msg p (OffState b) ≡ shown_page out (off_shown p) ∷ todo board msg (left (OffState b))
+  off_ends true = refl
+  off_ends false = refl
 
-  off_advances : (b : Bool) → IfShown (Advances file msg out table.config p.at (weight (OffState b))) (off_in (OffState b))
+  off_advances : (b : Bool) → Advances file msg out table.config p.at (weight (OffState b)) (left (OffState b)) (off_shown p)
   unfolding spans_of
-  off_advances true = record { stands = stays; less = omega arith; few = omega arith; looked = refl; short = omega arith }
-  off_advances false = record { stands = stays; less = omega arith; few = omega arith; looked = refl; short = omega arith }
+  off_advances true =
+      record {
+        stands = record { within = z.stands.within; inside = z.stands.inside };
+        less = omega arith;
+        few = omega arith;
+        looked = refl;
+        short = omega arith;
+      }
+  off_advances false =
+      record {
+        stands = record { within = z.stands.within; inside = z.stands.inside };
+        less = omega arith;
+        few = omega arith;
+        looked = refl;
+        short = omega arith;
+      }
 
-  off_in_law : (b : Bool) → Tells (OffState b) (off_in (OffState b))
-  off_in_law true = record { ends = refl; next = off_advances true; rowed = refl; room = refl }
-  off_in_law false = record { ends = refl; next = off_advances false; rowed = refl; room = refl }
+  pub next_off : {b : Bool} {p' : Pages} {x : PageShown} → p.page_state ≡ OffState b → p' ≡ off_left p → x ≡ off_shown p
+      → NextRead file table msg p rows out p' rows out (Ok (There x))
+  next_off {b} q k w =
+      rw (k, w)
+      (record {
+        ends =
+            ap (todo_by board msg p) q ∙ off_ends b
+            ∙ ap (λ (x : PageState). shown_page out (off_shown p) ∷ todo board msg (left x)) (sym q);
+        next = subst (λ (x : PageState). Advances file msg out table.config p.at (weight x) (left x) (off_shown p)) (sym q) (off_advances b);
+        rowed = refl;
+        room = refl;
+      })
 
-  pub next_off : {b : Bool} {r : NextPage} → p.page_state ≡ OffState b → r ≡ off_by p → Tells p.page_state r
-  next_off {b} q k = subst (Tells p.page_state) (sym k) (subst (λ (x : PageState). Tells x (off_in x)) (sym q) (off_in_law b))
-
-  pub next_done : p.page_state ≡ Done → Tells p.page_state NextNone
-  next_done q = subst (λ (x : PageState). Tells x NextNone) (sym q) (record { ends = refl; next = tt; rowed = refl; room = refl })
+  pub next_done : p.page_state ≡ Done → NextRead file table msg p rows out p rows out (Ok Gone)
+  next_done q = record { ends = ap (todo_by board msg p) q; next = tt; rowed = refl; room = refl }
 
 -- ---- before the first answer
 

@@ -3,6 +3,7 @@ use Prim.Native.Nat.{ℕ, suc, ◌+◌, ◌≤◌, ◌<◌}
 use mathlib.Core.Path.{◌≡◌, refl, sym, ◌∙◌, ap, subst}
 use mathlib.Core.Bool.{Bool, true, false}
 use mathlib.Core.Option.{Option, none, some}
+use Rattle.std.specs.Prelude.{Result, Ok, Err, IfOk}
 use mathlib.Core.List.{List, [], ◌∷◌, ◌++◌}
 use native.Mathlib.Omega.{arith}
 use native.Mathlib.Numerals.{add-one}
@@ -26,13 +27,11 @@ use Rattle.rows.specs.Rows.{spans_of}
 use Rattle.pass.specs.declared.How.{How}
 use Rattle.pass.specs.declared.How.TheVariants.{Cut as ByCut, Turn as ByTurn, End as ByEnd}
 use Rattle.pass.specs.declared.PassDone.{PassDone}
-use Rattle.pass.specs.declared.PassEnd.{PassEnd}
-use Rattle.pass.specs.declared.PassEnd.TheVariants.{Refused as RefusedPass, Ended as EndedPass}
-use Rattle.pass.specs.Pass.{Ending, refused, ended, entries_of, ending_of, events_after, events_by, told, IfEnded, Inside, tag_bytes}
+use Rattle.pass.specs.declared.Reached.{Reached}
+use Rattle.pass.specs.Pass.{Ending, refused, ended, entries_of, ending_of, events_after, events_by, start_at, told, Inside, tag_bytes}
 use Rattle.pass.proofs.Read.{read_pass}
-use Rattle.pages.specs.declared.PageEnd.{PageEnd}
-use Rattle.pages.specs.declared.PageEnd.TheVariants.{Refused as RefusedEnd, Ended as EndedPage}
-use Rattle.pages.specs.Pages.{board_in, Ready, looked_for, RenderAsked, stop_by, placed_ending, SpansPlaced, PassRendered, run, turned, last_of, page_done, page_told, IfPageEnded, PageInMessage, PageRendered}
+use Rattle.pages.specs.declared.PageDone.{PageDone}
+use Rattle.pages.specs.Pages.{board_in, Ready, looked_for, RenderAsked, stop_by, placed_ending, SpansPlaced, PassRendered, run, turned, page_done, page_told, PageRendered}
 
 -- ---- layout's answers, by a pass's ending
 
@@ -79,34 +78,30 @@ module _ (s : Board) (its : List Item) (a b : ℕ) (st : RenderState) (rs : List
   unfolding run
   run_pass = ap (λ (l : List Event). walk s l a b rs n) (read_pass s.config a b its st) ∙ by_ending s a b n rs spans end
 
--- ---- the 51st pass
-
-pub last_refused : {p : PassEnd} {x : Refusal} → p ≡ RefusedPass x → RefusedEnd x ≡ last_of p
-last_refused q = rw q
-
 -- ---- the loop over the passes of a page
 
 -- where the loop stands: first is the state it began with, rows₀ and out₀ the slices
 pub record Stands (file : List ℕ) (table : SignFile) (msg : List ℕ) (from : ℕ) (first : RenderState) (rows₀ out₀ rows out : List ℕ)
-    (at : ℕ) (st : RenderState) (n looked k : ℕ) : Type 0 where
+    (p : Reached) (k : ℕ) : Type 0 where
   pub ready : Ready file table msg rows₀ out₀
-  pub counted : n ≤ at
-  pub summed : looked ≡ looked_for file msg out n
-  pub few : looked ≤ at
-  pub begun : from ≤ at
-  pub within : at ≤ length msg
-  pub inside : Inside table.config st.rect
+  pub counted : p.count ≤ p.at
+  pub summed : p.looked ≡ looked_for file msg out p.count
+  pub few : p.looked ≤ p.at
+  pub begun : from ≤ p.at
+  pub within : p.at ≤ length msg
+  pub inside : Inside table.config p.state.rect
   pub rowed : length rows ≡ length rows₀
   pub room : length out ≡ length out₀
   pub same : (a b : ℕ)
-      → run (board_in file msg table.config) (items_from table.config at msg) a b st (spans_of out n) k
+      → run (board_in file msg table.config) (items_from table.config p.at msg) a b p.state (spans_of out p.count) k
       ≡ run (board_in file msg table.config) (items_from table.config from msg) a b first [] 0
 
-pub page_start : {file : List ℕ} {table : SignFile} {msg : List ℕ} {from : ℕ} {first : RenderState} {rows out : List ℕ}
-    → RenderAsked file table msg rows out from first 0 0 → Stands file table msg from first rows out rows out from first 0 0 0
+pub page_start : {file : List ℕ} {table : SignFile} {msg : List ℕ} {from : ℕ} {first : RenderState} {rows out : List ℕ} {p : Reached}
+    → RenderAsked file table msg rows out (start_at from first) → p ≡ start_at from first → Stands file table msg from first rows out rows out p 0
 unfolding spans_of
-page_start h =
-    record {
+page_start {file} {table} {msg} {from} {first} {rows} {out} h e =
+    subst (λ (p : Reached). Stands file table msg from first rows out rows out p 0) (sym e)
+    (record {
       ready = h.ready;
       counted = omega arith;
       summed = refl;
@@ -117,14 +112,14 @@ page_start h =
       rowed = refl;
       room = refl;
       same = λ a b. refl;
-    }
+    })
 
 pub whole_inside : (c : Config) → Inside c (whole c)
 whole_inside c = record { across = omega arith; down = omega arith }
 
 module _ {file : List ℕ} {table : SignFile} {msg : List ℕ} {from : ℕ} {first : RenderState} {rows₀ out₀ rows out : List ℕ}
-    {at : ℕ} {st : RenderState} {n looked k : ℕ} (z : Stands file table msg from first rows₀ out₀ rows out at st n looked k) where
-  pub page_asks : RenderAsked file table msg rows out at st n looked
+    {p : Reached} {k : ℕ} (z : Stands file table msg from first rows₀ out₀ rows out p k) where
+  pub page_asks : RenderAsked file table msg rows out p
   page_asks =
       let r : Ready file table msg rows₀ out₀ = z.ready in
       record {
@@ -140,36 +135,38 @@ module _ {file : List ℕ} {table : SignFile} {msg : List ℕ} {from : ℕ} {fir
   s = board_in file msg table.config
 
   abbrev es : List Entry
-  es = entries_of s.config (items_from s.config at msg) st true
+  es = entries_of s.config (items_from s.config p.at msg) p.state true
 
   -- the whole page
   abbrev whole_run : ℕ → ℕ → List Page
   whole_run a b = run s (items_from s.config from msg) a b first [] 0
 
   -- a pass was read and placed: t is its end
-  module _ {rows' out' : List ℕ} {t : PassEnd} (p : PassRendered file table msg at st rows out n rows' out' t) where
+  module _ {rows' out' : List ℕ} {t : Result PassDone Refusal} (g : PassRendered file table msg p rows out rows' out' t) where
     -- a page that ended so
-    abbrev Ends : PageEnd → Type 0
+    abbrev Ends : Result PageDone Refusal → Type 0
     Ends = PageRendered file table msg from first rows₀ out₀ rows' out'
 
     pub page_rowed : length rows' ≡ length rows₀
-    page_rowed = p.rowed ∙ z.rowed
+    page_rowed = g.rowed ∙ z.rowed
 
     pub page_room : length out' ≡ length out₀
-    page_room = p.room ∙ z.room
+    page_room = g.room ∙ z.room
 
-    came : (a b : ℕ) {u : PassEnd} → t ≡ u → run_by s a b k (spans_of out n) es (told s.config msg u) ≡ whole_run a b
+    came : (a b : ℕ) {u : Result PassDone Refusal} → t ≡ u → run_by s a b k (spans_of out p.count) es (told s.config msg u) ≡ whole_run a b
     came a b q =
-        ap (λ (x : PassEnd). run_by s a b k (spans_of out n) es (told s.config msg x)) (sym q) ∙ ap (run_by s a b k (spans_of out n) es) p.ends
-        ∙ sym (run_pass s (items_from s.config at msg) a b st (spans_of out n) k) ∙ z.same a b
+        ap (λ (x : Result PassDone Refusal). run_by s a b k (spans_of out p.count) es (told s.config msg x)) (sym q)
+        ∙ ap (run_by s a b k (spans_of out p.count) es) g.ends
+        ∙ sym (run_pass s (items_from s.config p.at msg) a b p.state (spans_of out p.count) k)
+        ∙ z.same a b
 
-    pub page_refuse : {x : Refusal} → t ≡ RefusedPass x → Ends (RefusedEnd x)
+    pub page_refuse : {x : Refusal} → t ≡ Err x → Ends (Err x)
     page_refuse q = record { ends = λ a b. sym (came a b q); done = tt; rowed = page_rowed; room = page_room }
 
     -- it is done, by h, and not the 51st
-    module _ {d : PassDone} (q : t ≡ EndedPass d) {h : How} (e : d.how ≡ h) (few : k < 50) where
-      placed : SpansPlaced file s es msg at out n out' d
-      placed = subst (IfEnded (SpansPlaced file s es msg at out n out')) q p.done
+    module _ {d : PassDone} (q : t ≡ Ok d) {h : How} (e : d.how ≡ h) (few : k < 50) where
+      placed : SpansPlaced file s es msg p.at out p.count out' d
+      placed = subst (λ (r : Result PassDone Refusal). IfOk r (SpansPlaced file s es msg p.at out p.count out')) q g.done
 
       not_full : full k ≡ none
       unfolding unless
@@ -177,20 +174,20 @@ module _ {file : List ℕ} {table : SignFile} {msg : List ℕ} {from : ℕ} {fir
 
       -- what follows it, with the records rs
       abbrev next : List Span → How → ℕ → ℕ → List Page
-      next rs u a b = onward s a b k rs u d.state (items_from s.config d.at msg)
+      next rs u a b = onward s a b k rs u d.reached.state (items_from s.config d.reached.at msg)
 
-      here : (a b : ℕ) → next (spans_of out' d.count) h a b ≡ whole_run a b
+      here : (a b : ℕ) → next (spans_of out' d.reached.count) h a b ≡ whole_run a b
       here a b =
-          ap (λ (u : How). next (spans_of out' d.count) u a b) (sym e) ∙ ap (λ (rs : List Span). next rs d.how a b) placed.written
-          ∙ sym (ap (λ (o : Option Refusal). stop_at o (next (spans_of out n ++ pass_records s d.rect es) d.how a b)) not_full) ∙ came a b q
+          ap (λ (u : How). next (spans_of out' d.reached.count) u a b) (sym e) ∙ ap (λ (rs : List Span). next rs d.how a b) placed.written
+          ∙ sym (ap (λ (o : Option Refusal). stop_at o (next (spans_of out p.count ++ pass_records s d.rect es) d.how a b)) not_full) ∙ came a b q
 
-      forth : at + tag_bytes h ≤ d.at
-      forth = subst (λ (u : How). at + tag_bytes u ≤ d.at) e placed.forward
+      forth : p.at + tag_bytes h ≤ d.reached.at
+      forth = subst (λ (u : How). p.at + tag_bytes u ≤ d.reached.at) e placed.forward
 
-      finish : {m : Bool} {v : PageEnd} → ((a b : ℕ) → whole_run a b ≡ page_told s msg a b out' (EndedPage (page_done s.config m d))) → pick m 1 0 ≤ tag_bytes h
-          → v ≡ EndedPage (page_done s.config m d) → Ends v
+      finish : {m : Bool} {v : PageDone} → ((a b : ℕ) → whole_run a b ≡ page_told s msg a b out' (Ok (page_done s.config m d.reached)))
+          → pick m 1 0 ≤ tag_bytes h → v ≡ page_done s.config m d.reached → Ends (Ok v)
       finish f l w =
-          subst Ends (sym w)
+          subst (λ (x : PageDone). Ends (Ok x)) (sym w)
           (record {
             ends = f;
             done =
@@ -206,7 +203,7 @@ module _ {file : List ℕ} {table : SignFile} {msg : List ℕ} {from : ℕ} {fir
             room = page_room;
           })
 
-      on_cut : h ≡ ByCut → Stands file table msg from first rows₀ out₀ rows' out' d.at d.state d.count d.looked (k + 1)
+      on_cut : h ≡ ByCut → Stands file table msg from first rows₀ out₀ rows' out' d.reached (k + 1)
       on_cut i =
           record {
             ready = z.ready;
@@ -219,18 +216,17 @@ module _ {file : List ℕ} {table : SignFile} {msg : List ℕ} {from : ℕ} {fir
             rowed = page_rowed;
             room = page_room;
             same = λ a b.
-                ap (run s (items_from s.config d.at msg) a b d.state (spans_of out' d.count)) (add-one k)
-                ∙ ap (λ (u : How). next (spans_of out' d.count) u a b) (sym i) ∙ here a b;
+                ap (run s (items_from s.config d.reached.at msg) a b d.reached.state (spans_of out' d.reached.count)) (add-one k)
+                ∙ ap (λ (u : How). next (spans_of out' d.reached.count) u a b) (sym i) ∙ here a b;
           }
 
-    pub page_cut : {d : PassDone} → t ≡ EndedPass d → d.how ≡ ByCut → k < 50
-        → Stands file table msg from first rows₀ out₀ rows' out' d.at d.state d.count d.looked (k + 1)
+    pub page_cut : {d : PassDone} → t ≡ Ok d → d.how ≡ ByCut → k < 50 → Stands file table msg from first rows₀ out₀ rows' out' d.reached (k + 1)
     page_cut q e h = on_cut q e h refl
 
-    pub page_turn : {d : PassDone} {v : PageEnd} → t ≡ EndedPass d → d.how ≡ ByTurn → k < 50 → v ≡ EndedPage (page_done table.config true d) → Ends v
+    pub page_turn : {d : PassDone} {v : PageDone} → t ≡ Ok d → d.how ≡ ByTurn → k < 50 → v ≡ page_done table.config true d.reached → Ends (Ok v)
     page_turn q e h w = finish q e h (λ a b. sym (here q e h a b)) (omega arith) w
 
-    pub page_end : {d : PassDone} {v : PageEnd} → t ≡ EndedPass d → d.how ≡ ByEnd → k < 50 → v ≡ EndedPage (page_done table.config false d) → Ends v
+    pub page_end : {d : PassDone} {v : PageDone} → t ≡ Ok d → d.how ≡ ByEnd → k < 50 → v ≡ page_done table.config false d.reached → Ends (Ok v)
     page_end q e h w = finish q e h (λ a b. sym (here q e h a b)) (omega arith) w
 
     -- the 51st
@@ -241,13 +237,12 @@ module _ {file : List ℕ} {table : SignFile} {msg : List ℕ} {from : ℕ} {fir
     stopped : 50 ≤ k → (l : List Page) → stop_at (full k) l ≡ refused_page (refusal 15 0 0 0) ∷ []
     stopped h l = ap (λ (o : Option Refusal). stop_at o l) (is_full h)
 
-    last_is : 50 ≤ k → (u : PassEnd) → t ≡ u → (a b : ℕ) → whole_run a b ≡ page_told s msg a b out' (last_of u)
-    last_is h (RefusedPass x) q a b = sym (came a b q)
-    last_is h (EndedPass d) q a b = sym (came a b q) ∙ stopped h _
-
-    last_done : (u : PassEnd) → IfPageEnded (PageInMessage file msg out' s.config from) (last_of u)
-    last_done (RefusedPass x) = tt
-    last_done (EndedPass d) = tt
-
-    pub page_last : {v : PageEnd} → 50 ≤ k → v ≡ last_of t → Ends v
-    page_last h w = subst Ends (sym w) (record { ends = last_is h t refl; done = last_done t; rowed = page_rowed; room = page_room })
+    pub page_last : {d : PassDone} {x : Refusal} → 50 ≤ k → t ≡ Ok d → x ≡ refusal 15 0 0 0 → Ends (Err x)
+    page_last h q w =
+        subst (λ (x : Refusal). Ends (Err x)) (sym w)
+        (record {
+          ends = λ a b. sym (came a b q) ∙ stopped h _;
+          done = tt;
+          rowed = page_rowed;
+          room = page_room;
+        })

@@ -3,6 +3,7 @@ use Prim.Native.Nat.{ℕ, ◌+◌}
 use mathlib.Core.Path.{◌≡◌, refl, sym, ◌∙◌, ap, subst}
 use mathlib.Core.Bool.{true}
 use mathlib.Core.Option.{Option}
+use Rattle.std.specs.Prelude.{Result, Ok, Err, IfOk}
 use mathlib.Core.List.{List, ◌++◌}
 use native.Mathlib.Omega.{arith}
 use lib.ListN.{get_or}
@@ -16,7 +17,6 @@ use Rattle.font.specs.Table.{font_numbered}
 use Rattle.counts.specs.Placing.{chars_in, fonts_in, capitals_in, looked_in, chars_looked}
 use Rattle.counts.proofs.Laws.{sum_append, looked_pass}
 use Rattle.sign.proofs.Answer.{Accepts, accepts}
-use Rattle.layout.specs.declared.RenderState.{RenderState}
 use Rattle.layout.specs.declared.Entry.{Entry}
 use Rattle.layout.specs.declared.Span.{Span}
 use Rattle.layout.specs.Types.{Board}
@@ -30,14 +30,17 @@ use Rattle.place.proofs.Bridge.{pass_fault_law, pass_records_law}
 use Rattle.meter.specs.Gauges.{AcceptedTable, meter_in}
 use Rattle.meter.proofs.Tells.{meter_told}
 use Rattle.pass.specs.declared.PassDone.{PassDone}
-use Rattle.pass.specs.declared.PassEnd.{PassEnd}
-use Rattle.pass.specs.declared.PassEnd.TheVariants.{Refused as RefusedPass, Ended as EndedPass}
-use Rattle.pass.specs.Pass.{Ending, entries_of, ending_of, done_by, told, IfEnded, SpansRead, PassRead}
+use Rattle.pass.specs.declared.Reached.{Reached}
+use Rattle.pass.specs.Pass.{Ending, entries_of, ending_of, told, SpansRead, PassRead}
 use Rattle.pages.specs.Pages.{board_in, looked_for, RenderAsked, stop_by, placed_ending, PassRendered}
 
+pub placed_none : (o : OptRefusal) → ((x : Refusal) → o ≡ Some x → ⊥) → o ≡ None
+placed_none None h = refl
+placed_none (Some x) h = absurd (h x refl)
+
 -- a pass was read: t is its end, rows₀ were there before it, and rows hold its spans
-module _ {file : List ℕ} {table : SignFile} {msg : List ℕ} {from : ℕ} {st : RenderState} {rows₀ out : List ℕ} {at k : ℕ} {rows : List ℕ} {t : PassEnd}
-    (asked : RenderAsked file table msg rows₀ out from st at k) (read : PassRead file table msg from st rows₀ rows t) where
+module _ {file : List ℕ} {table : SignFile} {msg : List ℕ} {p : Reached} {rows₀ out rows : List ℕ} {t : Result PassDone Refusal}
+    (asked : RenderAsked file table msg rows₀ out p) (read : PassRead file table msg p.at p.state rows₀ rows t) where
   abbrev c : Config
   c = table.config
 
@@ -45,31 +48,31 @@ module _ {file : List ℕ} {table : SignFile} {msg : List ℕ} {from : ℕ} {st 
   s = board_in file msg c
 
   abbrev es : List Entry
-  es = entries_of c (items_from c from msg) st true
+  es = entries_of c (items_from c p.at msg) p.state true
 
   abbrev sign : Sign
   sign = sign_file file
 
   abbrev end : Ending
-  end = ending_of c (items_from c from msg) st true
+  end = ending_of c (items_from c p.at msg) p.state true
 
   -- it is rendered so: out' are the records after it, v is its end
-  abbrev Rendered : List ℕ → PassEnd → Type 0
-  Rendered out' v = PassRendered file table msg from st rows₀ out at rows out' v
+  abbrev Rendered : List ℕ → Result PassDone Refusal → Type 0
+  Rendered out' v = PassRendered file table msg p rows₀ out rows out' v
 
-  pub render_refused : {x : Refusal} → t ≡ RefusedPass x → Rendered out (RefusedPass x)
+  pub render_refused : {x : Refusal} → t ≡ Err x → Rendered out (Err x)
   render_refused q = record { ends = ap (placed_ending s es) (ap (told c msg) (sym q) ∙ read.ends); done = tt; rowed = read.room; room = refl }
 
   -- it is done
-  module _ {d : PassDone} (q : t ≡ EndedPass d) where
-    spans : SpansRead file table msg from st rows d
-    spans = subst (IfEnded (SpansRead file table msg from st rows)) q read.done
+  module _ {d : PassDone} (q : t ≡ Ok d) where
+    spans : SpansRead file table msg p.at p.state rows d
+    spans = subst (λ (r : Result PassDone Refusal). IfOk r (SpansRead file table msg p.at p.state rows)) q read.done
 
-    pub render_asks : ((i : ℕ) → Val.Fits w8 (get_or file i 0)) → Placeable d.rect rows d.count out at
+    pub render_asks : ((i : ℕ) → Val.Fits w8 (get_or file i 0)) → Placeable d.rect rows d.reached.count out p.count
     render_asks bytes =
         let o : AcceptedTable file table = asked.ready.opened in
         let a : Accepts file table = accepts file table o.0 (λ i. omega (arith, bytes i)) o.1 in
-        let p : SpansRead file table msg from st rows d = spans in
+        let g : SpansRead file table msg p.at p.state rows d = spans in
         record {
           few = omega arith;
           rowed = omega arith;
@@ -78,53 +81,60 @@ module _ {file : List ℕ} {table : SignFile} {msg : List ℕ} {from : ℕ} {st 
           down = omega (arith, a.good.config.height_most);
         }
 
-    pub render_fits : Val.Fits w64 (at + d.count)
+    pub render_fits : Val.Fits w64 (p.count + d.reached.count)
     render_fits =
-        let p : SpansRead file table msg from st rows d = spans in
+        let g : SpansRead file table msg p.at p.state rows d = spans in
         omega (arith, asked.counted, asked.ready.small)
 
-    pub looked_fits : Val.Fits w64 (k + d.looked)
+    pub looked_fits : Val.Fits w64 (p.looked + d.reached.looked)
     looked_fits =
-        let p : SpansRead file table msg from st rows d = spans in
+        let g : SpansRead file table msg p.at p.state rows d = spans in
         omega (arith, asked.few, asked.ready.small)
 
     -- and placed: o is the answer
-    module _ {out' : List ℕ} {o : OptRefusal} (p : PassPlaced table.config d.rect rows d.count out at out' o) where
-      fault_is_law : rows_fault c d.rect (rows_of rows d.count) ≡ pass_fault s d.rect es
+    module _ {out' : List ℕ} {o : OptRefusal} (placed : PassPlaced table.config d.rect rows d.reached.count out p.count out' o) where
+      fault_is_law : rows_fault c d.rect (rows_of rows d.reached.count) ≡ pass_fault s d.rect es
       fault_is_law = ap (rows_fault c d.rect) spans.spans ∙ pass_fault_law (meter_in file msg) (meter_told file msg) c d.rect es
 
-      records_are : rows_records c d.rect (rows_of rows d.count) ≡ pass_records s d.rect es
+      records_are : rows_records c d.rect (rows_of rows d.reached.count) ≡ pass_records s d.rect es
       records_are = ap (rows_records c d.rect) spans.spans ∙ pass_records_law (meter_in file msg) (meter_told file msg) c d.rect es
 
-      ends_by : {y : Option Refusal} → fault_is o ≡ y → stop_by y (told c msg (EndedPass d)) ≡ placed_ending s es end
+      ends_by : {y : Option Refusal} → fault_is o ≡ y → stop_by y (told c msg (Ok d)) ≡ placed_ending s es end
       ends_by e =
-          ap (λ (x : Option Refusal). stop_by x (told c msg (EndedPass d))) (sym e ∙ p.fault ∙ fault_is_law)
+          ap (λ (x : Option Refusal). stop_by x (told c msg (Ok d))) (sym e ∙ placed.fault ∙ fault_is_law)
           ∙ ap (placed_ending s es) (ap (told c msg) (sym q) ∙ read.ends)
 
-      pub render_stop : {x : Refusal} → o ≡ Some x → Rendered out' (RefusedPass x)
-      render_stop e = record { ends = ends_by (ap fault_is e); done = tt; rowed = read.room; room = p.room }
+      pub render_stop : {x : Refusal} → o ≡ Some x → Rendered out' (Err x)
+      render_stop e = record { ends = ends_by (ap fault_is e); done = tt; rowed = read.room; room = placed.room }
 
       -- the records of the page so far, and its characters looked up
-      written : o ≡ None → spans_of out' (at + d.count) ≡ spans_of out at ++ pass_records s d.rect es
-      written e = p.written e ∙ ap (λ (l : List Span). spans_of out at ++ l) records_are
+      written : o ≡ None → spans_of out' (p.count + d.reached.count) ≡ spans_of out p.count ++ pass_records s d.rect es
+      written e = placed.written e ∙ ap (λ (l : List Span). spans_of out p.count ++ l) records_are
 
-      looked_so : o ≡ None → k + d.looked ≡ looked_for file msg out' (at + d.count)
+      looked_so : o ≡ None → p.looked + d.reached.looked ≡ looked_for file msg out' (p.count + d.reached.count)
       looked_so e =
           omega (
             arith,
             asked.looked,
             spans.looked,
             looked_pass sign msg s d.rect es,
-            sum_append (λ q. looked_in (capitals_in sign) (chars_in msg q) (font_numbered q.font (fonts_in sign))) (spans_of out at) (pass_records s d.rect es),
+            sum_append (λ q. looked_in (capitals_in sign) (chars_in msg q) (font_numbered q.font (fonts_in sign))) (spans_of out p.count) (pass_records s d.rect es),
           )
           ∙ ap (chars_looked sign msg) (sym (written e))
 
-      pub render_done : {v : PassEnd} → o ≡ None → v ≡ EndedPass (done_by d.how d.at (at + d.count) (k + d.looked) d.rect d.state)
-          → Rendered out' v
-      render_done e i =
-          let g : SpansRead file table msg from st rows d = spans in
-          subst (Rendered out') (sym i)
-          (record {
+      -- the pass with the page's counts
+      abbrev so_far : PassDone
+      so_far =
+          record {
+            how = d.how;
+            rect = d.rect;
+            reached = record { at = d.reached.at; count = p.count + d.reached.count; looked = p.looked + d.reached.looked; state = d.reached.state };
+          }
+
+      pub render_done : o ≡ None → Rendered out' (Ok so_far)
+      render_done e =
+          let g : SpansRead file table msg p.at p.state rows d = spans in
+          record {
             ends = ends_by (ap fault_is e);
             done =
                 record {
@@ -137,5 +147,5 @@ module _ {file : List ℕ} {table : SignFile} {msg : List ℕ} {from : ℕ} {st 
                   inside = g.next;
                 };
             rowed = read.room;
-            room = p.room;
-          })
+            room = placed.room;
+          }

@@ -1,9 +1,8 @@
 -- A pass as the code reads it: its spans, and how it ends. `read_pass` of proofs/Read.antt says that layout's `read` is made of these.
-use Rattle.std.specs.Prelude.{ℕ, ◌+◌, ◌-◌, ◌≤◌, ◌<◌, ◌≡◌, Bool, true, List, [], ◌∷◌, map, length, take, drop}
+use Rattle.std.specs.Prelude.{ℕ, ◌+◌, ◌-◌, ◌≤◌, ◌<◌, ◌≡◌, Bool, true, List, [], ◌∷◌, map, length, set, take, drop, Result, Ok, Err, IfSome, IfOk}
 use Rattle.token.specs.Token.{slice_len}
 use Rattle.refusal.specs.declared.Refusal.{Refusal}
 use Rattle.records.specs.declared.Config.{Config}
-use Rattle.sign.specs.declared.SignFile.{SignFile}
 use Rattle.layout.specs.declared.Rect.{Rect}
 use Rattle.layout.specs.declared.RenderState.{RenderState}
 use Rattle.layout.specs.declared.Entry.{Entry}
@@ -12,16 +11,17 @@ use Rattle.layout.specs.declared.Step.TheVariants.{Refuse, Go, Emit, Cut, Turn}
 use Rattle.layout.specs.Types.{Item, item_at}
 use Rattle.layout.specs.Read.{step, Scan, scan, Event, pass, close, stop, stop_if, new_page, read}
 use Rattle.page.specs.Scan.{items_from}
-use Rattle.rows.specs.Rows.{RowRoom, rows_of, put_row, ByteFields}
+use Rattle.rows.specs.Rows.{RowRoom, rows_of}
+use Rattle.rows.specs.declared.Row.{Row}
 use Rattle.rows.specs.Measured.{row_of}
 use Rattle.counts.specs.Placing.{sum_of}
-use Rattle.meter.specs.Gauges.{AcceptedTable, WidthsOf, EntryIn, meter_in, looked_by}
+use Rattle.meter.specs.Gauges.{WidthsOf, EntryIn, meter_in, looked_by}
+use Rattle.meter.specs.declared.call.Call.{Call}
 use Rattle.pass.specs.declared.How.{How}
 use Rattle.pass.specs.declared.How.TheVariants.{Cut as ByCut, Turn as ByTurn, End as ByEnd}
-use Rattle.pass.specs.declared.Kept.{Kept}
+use Rattle.pass.specs.declared.Held.{Held}
 use Rattle.pass.specs.declared.PassDone.{PassDone}
-use Rattle.pass.specs.declared.PassEnd.{PassEnd}
-use Rattle.pass.specs.declared.PassEnd.TheVariants.{Refused as RefusedBy, Ended as EndedBy}
+use Rattle.pass.specs.declared.Reached.{Reached}
 
 -- how a pass ends: a refusal; or what ended it, its rectangle, the state after [tr], before [np] or at the message's end, and the items left
 pub data Ending : Type 0 where
@@ -56,18 +56,14 @@ ending_of c (it ∷ its) st blank = ending_by st its (ending_of c its) (step c s
 unfoldable pub step_at : Config → RenderState → Bool → ℕ → List ℕ → Step
 step_at c st blank at s = step c st blank (item_at c (record { start = at; bytes = s }))
 
-abbrev pub done_by : How → ℕ → ℕ → ℕ → Rect → RenderState → PassDone
-done_by h at n k r st = record { how = h; at = at; count = n; looked = k; rect = r; state = st }
+-- before the first span
+abbrev pub start_at : ℕ → RenderState → Reached
+start_at at st = record { at = at; count = 0; looked = 0; state = st }
 
 -- the ending that the code tells
-abbrev pub told : Config → List ℕ → PassEnd → Ending
-told c msg (RefusedBy r) = refused r
-told c msg (EndedBy d) = ended d.how d.rect d.state (items_from c d.at msg)
-
--- what is said of a pass, unless it is refused
-abbrev pub IfEnded : (PassDone → Type 0) → PassEnd → Type 0
-IfEnded P (RefusedBy r) = Unit {0}
-IfEnded P (EndedBy d) = P d
+abbrev pub told : Config → List ℕ → Result PassDone Refusal → Ending
+told c msg (Err r) = refused r
+told c msg (Ok d) = ended d.how d.rect d.reached.state (items_from c d.reached.at msg)
 
 -- a rectangle that lies inside the sign
 pub record Inside (c : Config) (r : Rect) : Type 0 where
@@ -80,62 +76,77 @@ tag_bytes ByCut = 1
 tag_bytes ByTurn = 1
 tag_bytes ByEnd = 0
 
--- the slice from a place to its end, in a message for a sign of this config
-pub record Sliced (c : Config) (msg : List ℕ) (at end : ℕ) : Type 0 where
-  pub more : at < length msg
-  pub next : end ≡ at + slice_len (drop at msg)
+-- the slice from a place to its end
+pub record Sliced (call : Call) (at end : ℕ) : Type 0 where
+  pub more : at < length call.msg.now
+  pub next : end ≡ at + slice_len (drop at call.msg.now)
   pub forward : at ≤ end
-  pub within : end ≤ length msg
-  pub small : length msg ≤ 2048
-  pub lines : c.line_just ≤ 4
-  pub pages : c.page_just ≤ 4
+  pub within : end ≤ length call.msg.now
+  pub lines : call.table.config.line_just ≤ 4
+  pub pages : call.table.config.page_just ≤ 4
 
 -- what it does
-pub record Steps (c : Config) (msg : List ℕ) (st : RenderState) (blank : Bool) (at end : ℕ) (r : Step) : Type 0 where
-  pub more : at < length msg
-  pub next : end ≡ at + slice_len (drop at msg)
-  pub does : r ≡ step_at c st blank at (take (end - at) (drop at msg))
+pub record Steps (call : Call) (st : RenderState) (blank : Bool) (at end : ℕ) (r : Step) : Type 0 where
+  pub more : at < length call.msg.now
+  pub next : end ≡ at + slice_len (drop at call.msg.now)
+  pub does : r ≡ step_at call.table.config st blank at (take (end - at) (drop at call.msg.now))
 
--- a span's row can be stored; the widths are those of the font held, if it is below 256
-pub record Storable (file : List ℕ) (table : SignFile) (msg : List ℕ) (e : Entry) (held : ℕ) (widths rows : List ℕ) (n : ℕ) : Type 0 where
-  pub opened : AcceptedTable file table
-  pub reads : EntryIn msg e
-  pub kept : held < 256 → WidthsOf file table held widths
-  pub few : n < 2048
+-- the items of a message from a place on, the spans of their pass, and how it ends
+abbrev pub items_in : Call → ℕ → List Item
+items_in call at = items_from call.table.config at call.msg.now
+
+abbrev pub entries_from : Call → ℕ → RenderState → Bool → List Entry
+entries_from call at = entries_of call.table.config (items_in call at)
+
+abbrev pub ending_from : Call → ℕ → RenderState → Bool → Ending
+ending_from call at = ending_of call.table.config (items_in call at)
+
+-- the row of a span, and how many characters its measure looks up
+abbrev pub row_in : Call → Entry → Row
+row_in call = row_of (meter_in call.file.now call.msg.now)
+
+abbrev pub looked_in : Call → Entry → ℕ
+looked_in call = looked_by call.file.now call.msg.now
+
+-- the widths held are those of the font held, if there is one
+abbrev pub Holds : Call → Held → Type 0
+Holds call h = IfSome h.font (λ n. WidthsOf call n h.widths)
+
+-- a span's row can be stored
+pub record Storable (call : Call) (e : Entry) (held : Held) (rows : List Row) (n : ℕ) : Type 0 where
+  pub reads : EntryIn call e
+  pub holds : Holds call held
   pub room : RowRoom (n + 1) rows
 
 -- it was: the widths are those of its font, and its measure looked so many characters up
-pub record Stored (file : List ℕ) (table : SignFile) (msg : List ℕ) (e : Entry) (rows : List ℕ) (n : ℕ) (widths' rows' : List ℕ) (r : Kept) : Type 0 where
-  pub row : rows' ≡ put_row rows n (row_of (meter_in file msg) e)
-  pub bytes : ByteFields (row_of (meter_in file msg) e)
-  pub font : r.font ≡ e.state.font
-  pub looked : r.looked ≡ looked_by file msg e
-  pub kept : WidthsOf file table e.state.font widths'
+pub record Stored (call : Call) (e : Entry) (rows : List Row) (n : ℕ) (held' : Held) (rows' : List Row) (k : ℕ) : Type 0 where
+  pub row : rows' ≡ set rows n (row_in call e)
+  pub looked : k ≡ looked_in call e
+  pub holds : Holds call held'
   pub room : length rows' ≡ length rows
 
--- a message for an accepted file, from a place on, with room for its rows
-pub record PassAsked (file : List ℕ) (table : SignFile) (msg : List ℕ) (from : ℕ) (first : RenderState) (rows : List ℕ) : Type 0 where
-  pub opened : AcceptedTable file table
-  pub small : length msg ≤ 2048
-  pub within : from ≤ length msg
-  pub rowed : RowRoom (length msg) rows
-  pub inside : Inside table.config first.rect
+-- a place in a message, with room for the message's rows
+pub record PassAsked (call : Call) (from : ℕ) (first : RenderState) (rows : List Row) : Type 0 where
+  pub within : from ≤ length call.msg.now
+  pub rowed : RowRoom (length call.msg.now) rows
+  pub inside : Inside call.table.config first.rect
 
 -- a pass that is done: the first rows are its spans', and their measures looked so many characters up; each has a byte beside those of its end; and its
 -- rectangles lie inside the sign
-pub record SpansRead (file : List ℕ) (table : SignFile) (msg : List ℕ) (from : ℕ) (first : RenderState) (rows : List ℕ) (d : PassDone) : Type 0 where
-  pub spans : rows_of rows d.count ≡ map (row_of (meter_in file msg)) (entries_of table.config (items_from table.config from msg) first true)
-  pub looked : d.looked ≡ sum_of (looked_by file msg) (entries_of table.config (items_from table.config from msg) first true)
-  pub counted : from + d.count + tag_bytes d.how ≤ d.at
-  pub few : from + d.looked ≤ d.at
-  pub within : d.at ≤ length msg
-  pub inside : Inside table.config d.rect
-  pub next : Inside table.config d.state.rect
+pub record SpansRead (call : Call) (from : ℕ) (first : RenderState) (rows : List Row) (d : PassDone) : Type 0 where
+  pub spans : rows_of rows d.reached.count ≡ map (row_in call) (entries_from call from first true)
+  pub looked : d.reached.looked ≡ sum_of (looked_in call) (entries_from call from first true)
+  pub counted : from + d.reached.count + tag_bytes d.how ≤ d.reached.at
+  pub few : from + d.reached.looked ≤ d.reached.at
+  pub within : d.reached.at ≤ length call.msg.now
+  pub inside : Inside call.table.config d.rect
+  pub next : Inside call.table.config d.reached.state.rect
 
 -- the pass from a place on was read, and ended so; rows were there before it, and rows' are after it
-pub record PassRead (file : List ℕ) (table : SignFile) (msg : List ℕ) (from : ℕ) (first : RenderState) (rows rows' : List ℕ) (r : PassEnd) : Type 0 where
-  pub ends : told table.config msg r ≡ ending_of table.config (items_from table.config from msg) first true
-  pub done : IfEnded (SpansRead file table msg from first rows') r
+pub record PassRead (call : Call) (from : ℕ) (first : RenderState) (rows rows' : List Row) (r : Result PassDone Refusal)
+    : Type 0 where
+  pub ends : told call.table.config call.msg.now r ≡ ending_from call from first true
+  pub done : IfOk r (SpansRead call from first rows')
   pub room : length rows' ≡ length rows
 
 -- what follows a pass that is done

@@ -1,16 +1,17 @@
 // Reading a pass: the values of a message up to [tr], [np] or the end, into rows of measured spans.
 #![tactic(auto)]
 
-ghost use Rattle.std.specs.Prelude.{◌≡◌, ◌≤◌, ◌<◌};
+ghost use Rattle.std.specs.Prelude.{◌≡◌, ◌≤◌, Some, None};
 ghost use Rattle.layout.specs.Read.{item_step};
 ghost use Rattle.meter.specs.Gauges.{WidthsOf};
-ghost use Rattle.pass.specs.Pass.{done_by, Sliced, Steps, Storable, Stored, PassAsked, PassRead};
+ghost use Rattle.pass.specs.Pass.{start_at, Holds, Sliced, Steps, Storable, Stored, PassAsked, PassRead};
 
 use layout::{Entry, Rect, RenderState, Step};
+use meter::Call;
 use reading::Said;
 use records::Config;
 use refusal::Refusal;
-use sign::SignFile;
+use rows::Row;
 use value::Place;
 
 // What ends a pass: [tr], [np] or the message's end.
@@ -21,22 +22,37 @@ pub enum How {
     End,
 }
 
-// A pass that is done: what ended it, the place past that, the count of its spans, how many characters their measures looked up, its
-// rectangle, and the state after [tr], before [np] or at the message's end.
+// How far the reading of a page has come: the place in the message, the counts of spans and of the characters looked up for them, and the
+// state.
 #[derive(Clone, Copy)]
-pub struct PassDone {
-    pub how: How,
+pub struct Reached {
     pub at: usize,
     pub count: usize,
     pub looked: usize,
-    pub rect: Rect,
     pub state: RenderState,
 }
 
+impl Reached {
+    // Before the first span.
+    pub fn start(at: usize, state: RenderState) -> Reached
+        ensures { result ≡ start_at at state }
+    {
+        Reached {
+            at,
+            count: 0,
+            looked: 0,
+            state,
+        }
+    }
+}
+
+// A pass that is done: what ended it, its rectangle, and how far it came: the place past what ended it, and the state after [tr], before
+// [np] or at the message's end.
 #[derive(Clone, Copy)]
-pub enum PassEnd {
-    Refused(Refusal),
-    Ended(PassDone),
+pub struct PassDone {
+    pub how: How,
+    pub rect: Rect,
+    pub reached: Reached,
 }
 
 // What an item at a place does.
@@ -56,11 +72,13 @@ fn step_by(c: Config, st: RenderState, blank: bool, p: Place, item: Said) -> Ste
 }
 
 // What the slice from a place to its end does.
-fn step_at(msg: &[u8], at: usize, end: usize, c: Config, st: RenderState, blank: bool) -> Step
-    requires { Sliced c msg.now at end }
-    ensures { Steps c msg.now st blank at end result }
+#[tactic(auto, unfolding(crate::specs::Pass::step_at, layout::specs::Read::step))]
+fn step_at(call: &Call, at: usize, end: usize, st: RenderState, blank: bool) -> Step
+    requires { Sliced call.now at end }
+    ensures { Steps call.now st blank at end result }
 {
-    let s = &msg[at..end];
+    let c = call.table.config;
+    let s = &call.msg[at..end];
     let item = reading::item_of(at, s, c.long_times);
     let p = Place {
         start: at as u16,
@@ -69,117 +87,89 @@ fn step_at(msg: &[u8], at: usize, end: usize, c: Config, st: RenderState, blank:
     step_by(c, st, blank, p, item)
 }
 
-// Fills the widths anew if they are not the font's. Held, and answered, is the font whose widths they are; 256 is none.
-fn keep(file: &[u8], table: SignFile, font: u8, held: u16, widths: &mut [u16; 256]) -> u16
-    requires { held < 256 → WidthsOf file.now table held widths.old }
-    ensures { (result ≡ font) × WidthsOf file.now table font widths.new }
-{
-    let wanted = base::wide16(font);
-    if held == wanted {
-        return wanted;
+// The font that was measured in last, if any, and its widths.
+#[derive(Drop)]
+pub struct Held {
+    font: Option<u8>,
+    widths: [u16; 256],
+}
+
+impl Held {
+    fn new() -> Held
+        ensures { result.font ≡ None }
+    {
+        Held {
+            font: None,
+            widths: [0; 256],
+        }
     }
-    *widths = meter::widths_of(file, table, font);
-    wanted
-}
 
-// The font whose widths are kept, and how many characters a span's measure looked up.
-#[derive(Clone, Copy)]
-pub struct Kept {
-    pub font: u16,
-    pub looked: usize,
-}
-
-// Stores a span's row, and keeps the widths of its font.
-fn store(
-    file: &[u8],
-    table: SignFile,
-    msg: &[u8],
-    e: Entry,
-    held: u16,
-    widths: &mut [u16; 256],
-    rows: &mut [u16],
-    n: usize,
-) -> Kept
-    requires { Storable file.now table msg.now e held widths.old rows.old n }
-    ensures { Stored file.now table msg.now e rows.old n widths.new rows.new result }
-{
-    let font = keep(file, table, e.state.font, held, widths);
-    let r = meter::row_of(file, table, widths, msg, e);
-    rows::put_row(rows, n, r.row);
-    Kept {
-        font,
-        looked: r.looked,
+    // Fills the widths anew if they are not the font's.
+    fn keep(&mut self, call: &Call, font: u8)
+        requires { Holds call.now self.old }
+        ensures { (self.new.font ≡ Some font) × WidthsOf call.now font self.new.widths }
+    {
+        if self.font != Some(font) {
+            self.font = Some(font);
+            self.widths = meter::widths_of(call, font);
+        }
     }
 }
 
-// The pass is done.
-pub fn end_pass(
-    how: How,
-    at: usize,
-    count: usize,
-    looked: usize,
-    rect: Rect,
-    state: RenderState,
-) -> PassEnd
-    ensures { result ≡ PassEnd.Ended (done_by how at count looked rect state) }
+// Stores a span's row, and answers how many characters its measure looked up.
+fn store(call: &Call, e: Entry, held: &mut Held, rows: &mut [Row], n: usize) -> usize
+    requires { Storable call.now e held.old rows.old n }
+    ensures { Stored call.now e rows.old n held.new rows.new result }
 {
-    PassEnd::Ended(PassDone {
-        how,
-        at,
-        count,
-        looked,
-        rect,
-        state,
-    })
+    held.keep(call, e.state.font);
+    let r = meter::row_of(call, &held.widths, e);
+    rows[n] = r.row;
+    r.looked
 }
 
 // The pass from a place on. Its spans' rows stand first in the slice.
 pub fn read_pass(
-    file: &[u8],
-    table: SignFile,
-    msg: &[u8],
+    call: &Call,
     from: usize,
     start: RenderState,
-    rows: &mut [u16],
-) -> PassEnd
-    requires { PassAsked file.now table msg.now from start rows.old }
-    ensures { PassRead file.now table msg.now from start rows.old rows.new result }
+    rows: &mut [Row],
+) -> Result<PassDone, Refusal>
+    requires { PassAsked call.now from start rows.old }
+    ensures { PassRead call.now from start rows.old rows.new result }
 {
-    let c = table.config;
-    let mut st = start;
+    let mut p = Reached::start(from, start);
     let mut blank = true;
-    let mut at = from;
-    let mut n: usize = 0;
-    let mut looked: usize = 0;
-    let mut widths = [0u16; 256];
-    let mut held: u16 = 256;
-    while at < msg.len() {
-        let end = token::slice_end(msg, at);
-        match step_at(msg, at, end, c, st, blank) {
-            Step::Refuse(r) => {
-                return PassEnd::Refused(r);
-            }
+    let mut held = Held::new();
+    let how = loop {
+        if p.at == call.msg.len() {
+            break How::End;
+        }
+        let at = p.at;
+        let end = token::slice_end(call.msg, at);
+        let step = step_at(call, at, end, p.state, blank);
+        p.at = end;
+        match step {
+            Step::Refuse(r) => return Err(r),
             Step::Go(next, b) => {
-                st = next;
+                p.state = next;
                 blank = b;
-                at = end;
             }
             Step::Emit(e, next, b) => {
-                let kept = store(file, table, msg, e, held, &mut widths, rows, n);
-                held = kept.font;
-                looked += kept.looked;
-                st = next;
+                p.looked += store(call, e, &mut held, rows, p.count);
+                p.count += 1;
+                p.state = next;
                 blank = b;
-                at = end;
-                n += 1;
             }
             Step::Cut(next) => {
-                return end_pass(How::Cut, end, n, looked, st.rect, next);
+                p.state = next;
+                break How::Cut;
             }
-            Step::Turn => {
-                return end_pass(How::Turn, end, n, looked, st.rect, st);
-            }
+            Step::Turn => break How::Turn,
         }
-    }
-    end_pass(How::End, at, n, looked, st.rect, st)
+    };
+    Ok(PassDone {
+        how,
+        rect: start.rect,
+        reached: p,
+    })
 }

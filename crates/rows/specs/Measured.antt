@@ -1,27 +1,28 @@
 -- The row of an entry: what the fonts say of it is taken once, and kept with it.
-use Rattle.std.specs.Prelude.{ℕ, ◌≡◌, eqb}
-use Rattle.std.proofs.Math.Option.{Option, none, some}
+use Rattle.std.specs.Prelude.{ℕ, ◌≡◌, Bool, true, false, eqb, Option, Some, None}
+use Rattle.std.proofs.Math.Option.{Option as Optional, none, some}
 use Rattle.base.specs.Pick.{pick}
 use Rattle.value.specs.declared.OptNum.{OptNum}
-use Rattle.value.specs.declared.OptNum.TheVariants.{Some, None}
+use Rattle.value.specs.declared.OptNum.TheVariants.{Some as num, None as no_num}
 use Rattle.layout.specs.declared.Entry.{Entry}
-use Rattle.layout.specs.Types.{unwrap_or, Meter}
+use Rattle.layout.specs.Types.{Meter}
 use Rattle.rows.specs.declared.Fault.{Fault}
 use Rattle.rows.specs.declared.Gauge.{Gauge}
 use Rattle.rows.specs.declared.Row.{Row}
 
--- 1 if there is a number
-abbrev pub flag : OptNum → ℕ
-flag None = 0
-flag (Some n) = 1
+-- whether there is a number
+abbrev pub flag : OptNum → Bool
+flag no_num = false
+flag (num n) = true
 
-abbrev pub fault_number : Option (ℕ × ℕ) → ℕ
-fault_number none = 0
-fault_number (some f) = f.0
+-- a fault as number and detail, and back
+abbrev pub fault_of : Option Fault → Optional (ℕ × ℕ)
+fault_of None = none
+fault_of (Some f) = some (f.number, f.detail)
 
-abbrev pub fault_detail : Option (ℕ × ℕ) → ℕ
-fault_detail none = 0
-fault_detail (some f) = f.1
+abbrev pub fault_in : Optional (ℕ × ℕ) → Option Fault
+fault_in none = None
+fault_in (some f) = Some (record { number = f.0; detail = f.1 })
 
 -- what the fonts say of a span
 abbrev pub gauge_of : Meter → Entry → Gauge
@@ -31,8 +32,7 @@ gauge_of m e =
       height = m.height e;
       font_spacing = m.line_spacing e;
       width = m.width e;
-      fault = fault_number (m.fault e);
-      detail = fault_detail (m.fault e);
+      fault = fault_in (m.fault e);
     }
 
 -- the row of a span with its gauge
@@ -50,32 +50,22 @@ row_by e g =
       span = e.state.span;
       fixed = flag e.state.char_spacing;
       spacing = g.spacing;
-      led = flag e.state.line_spacing;
-      lead = unwrap_or e.state.line_spacing 0;
+      lead = e.state.line_spacing;
       height = g.height;
       font_spacing = g.font_spacing;
       fault = g.fault;
-      detail = g.detail;
       width = g.width;
     }
 
 abbrev pub row_of : Meter → Entry → Row
 row_of m e = row_by e (gauge_of m e)
 
--- number and detail of a refusal, where 0 stands for none
-abbrev pub fault_of : ℕ → ℕ → Option (ℕ × ℕ)
-fault_of n d = pick (eqb n 0) none (some (n, d))
-
--- the first of two faults
-abbrev pub earlier_of : Fault → Fault → Fault
-earlier_of a b = pick (eqb a.number 0) b a
-
 -- of 10 to 12 the faults of a font: 10 and 11
-abbrev pub font_number : ℕ → ℕ
-font_number n = pick (eqb n 12) 0 n
+abbrev pub font_only : Option Fault → Option Fault
+font_only None = None
+font_only (Some f) = pick (eqb f.number 12) None (Some f)
 
--- rows tell what a meter says: a span's spacing is its [sc] value where one holds; a fault has a number; a font's fault comes first
+-- rows tell what a meter says: a span's spacing is its [sc] value where one holds; a font's fault comes first
 pub record RowTells (m : Meter) : Type 0 where
-  pub spaced : (e : Entry) (n : ℕ) → e.state.char_spacing ≡ Some n → m.spacing e ≡ n
-  pub whole : (e : Entry) → fault_of (fault_number (m.fault e)) (fault_detail (m.fault e)) ≡ m.fault e
-  pub font : (e : Entry) → fault_of (font_number (fault_number (m.fault e))) (fault_detail (m.fault e)) ≡ m.font_fault e
+  pub spaced : (e : Entry) (n : ℕ) → e.state.char_spacing ≡ num n → m.spacing e ≡ n
+  pub font : (e : Entry) → fault_of (font_only (fault_in (m.fault e))) ≡ m.font_fault e

@@ -1,43 +1,39 @@
-use borrow.Author.Rules.{rules}
 use Rattle.token.proofs.Laws.{next_less}
 use Rattle.pass.proofs.Laws.{pass_start, pass_asks, pass_end, pass_refuse, pass_cut, pass_turn, pass_go, pass_stores, pass_adds, pass_emit}
 use Rattle.pass.proofs.read_pass.Goals as goal
+use Rattle.pass.proofs.read_pass.Goals.{then-p-call, else-p-call+in-Cut, else-p-call+in-Turn}
 
-pub loop-at-init : goal.loop-at-init
-loop-at-init c = search pass_start
+pub loop-p-init : goal.loop-p-init
+loop-p-init c = search pass_start
 
-pub step_at-requires : goal.step_at-requires
-step_at-requires c = search pass_asks
+pub step_at-step-requires : goal.step_at-step-requires
+step_at-step-requires c = pass_asks c.loop-p.invariant c.if-p-call.false c.slice_end-end.ensures
 
 pub returns-in-Refuse : goal.returns-in-Refuse
 returns-in-Refuse c = search pass_refuse
 
-pub loop-at-smaller-in-Go : goal.loop-at-smaller-in-Go
-loop-at-smaller-in-Go c = search next_less
+pub loop-p-smaller-in-Go : goal.loop-p-smaller-in-Go
+loop-p-smaller-in-Go c = search next_less
 
-pub loop-at-preserved-in-Go : goal.loop-at-preserved-in-Go
-loop-at-preserved-in-Go c = search pass_go
+pub loop-p-preserved-in-Go : goal.loop-p-preserved-in-Go
+loop-p-preserved-in-Go c = search pass_go
 
-pub overflow_add-n : goal.overflow_add-n
-overflow_add-n c = search rules
+pub store-requires : goal.store-requires
+store-requires c = pass_stores c.loop-p.invariant c.step_at-step.ensures c.in-Emit.is
 
-pub loop-at-smaller : goal.loop-at-smaller
-loop-at-smaller c = search next_less
+pub overflow_add-p : goal.overflow_add-p
+overflow_add-p c = pass_adds c.loop-p.invariant c.step_at-step.ensures c.in-Emit.is c.store.ensures
 
-pub returns-in-Cut : goal.returns-in-Cut
-returns-in-Cut c = search pass_cut
+pub loop-p-smaller : goal.loop-p-smaller
+loop-p-smaller c = search next_less
 
-pub returns-in-Turn : goal.returns-in-Turn
-returns-in-Turn c = search pass_turn
+pub loop-p-preserved : goal.loop-p-preserved
+loop-p-preserved c = pass_emit c.loop-p.invariant c.step_at-step.ensures c.in-Emit.is c.store.ensures
 
 pub returns : goal.returns
-returns c = search pass_end
-
-pub store-kept-requires : goal.store-kept-requires
-store-kept-requires c = pass_stores c.loop-at.invariant c.step_at.ensures c.in-Emit.is
-
-pub overflow_add-looked : goal.overflow_add-looked
-overflow_add-looked c = pass_adds c.loop-at.invariant c.step_at.ensures c.in-Emit.is c.store-kept.ensures
-
-pub loop-at-preserved : goal.loop-at-preserved
-loop-at-preserved c = pass_emit c.loop-at.invariant c.step_at.ensures c.in-Emit.is c.store-kept.ensures
+returns c =
+    elim c.if-p-call.branch [
+      | then-p-call w ↦ rw (w.p-is, w.how-is) (pass_end c.loop-p.invariant w.if-p-call.true)
+      | else-p-call+in-Cut w ↦ rw (w.p-is, w.how-is) (pass_cut c.loop-p.invariant w.step_at-step.ensures w.in-Cut.is)
+      | else-p-call+in-Turn w ↦ rw (w.p-is, w.how-is) (pass_turn c.loop-p.invariant w.step_at-step.ensures w.in-Turn.is)
+    ]

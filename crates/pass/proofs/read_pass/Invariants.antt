@@ -3,8 +3,8 @@ use lib.ListN.{length}
 use Rattle.pass.proofs.Laws.{Stands}
 use Rattle.pass.proofs.read_pass.Given as goal
 
-abbrev pub invariant-loop-at : goal.invariant-loop-at
-invariant-loop-at l = Stands l.file l.table l.msg l.from l.initial.st l.initial.rows l.rows l.st l.blank l.at l.n l.looked l.widths l.held
+abbrev pub invariant-loop-p : goal.invariant-loop-p
+invariant-loop-p l = Stands l.call l.from l.start l.initial.rows l.rows l.p l.blank l.held
 
-abbrev pub decreases-loop-at : goal.decreases-loop-at
-decreases-loop-at l = length l.msg - l.at
+abbrev pub decreases-loop-p : goal.decreases-loop-p
+decreases-loop-p l = length l.call.msg.now - l.p.at
