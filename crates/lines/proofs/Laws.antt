@@ -5,26 +5,17 @@ use mathlib.Core.Bool.{Bool, true, false}
 use mathlib.Core.Option.{Option, none}
 use mathlib.Core.List.{List, [], ◌∷◌, map}
 use Rattle.base.specs.Pick.{pick}
-use Rattle.value.specs.declared.OptNum.{OptNum}
-use Rattle.value.specs.declared.OptNum.TheVariants.{Some, None}
 use Rattle.layout.specs.declared.Entry.{Entry}
-use Rattle.layout.specs.Types.{unwrap_or, Meter}
+use Rattle.layout.specs.Types.{Meter}
 use Rattle.layout.specs.Placing.{Line, add_line, line_of, lines, or_else, first_fault, keep, select, same_page}
-use Rattle.rows.specs.Measured.{flag, row_of, fault_of, font_number, fault_number, fault_detail, RowTells}
-use Rattle.lines.specs.Lines.{opt_of, row_line, lines_from, row_fault, font_fault_from}
-
-opt_same : (o : OptNum) → opt_of (flag o) (unwrap_or o 0) ≡ o
-opt_same None = refl
-opt_same (Some n) = refl
+use Rattle.rows.specs.Measured.{row_of, fault_of, fault_in, font_only, RowTells}
+use Rattle.lines.specs.Lines.{row_line, lines_from, row_fault, font_fault_from}
 
 none_or : (a : Option (ℕ × ℕ)) → or_else none a ≡ a
 unfolding or_else
 none_or a = refl
 
 module _ (m : Meter) where
-  line_same : (x : Entry) → row_line (row_of m x) ≡ line_of m x
-  line_same x = ap (λ (o : OptNum). record { height = m.height x; font_spacing = m.line_spacing x; line_spacing = o }) (opt_same x.state.line_spacing)
-
   from_lines : (e : Entry) (ls : List Line) (es : List Entry) → lines_from e.state.just_page ls (map (row_of m) es) ≡ lines m ls (select (same_page e) es)
   from_lines e ls [] = refl
   from_lines e ls (x ∷ es) = look (same_page e x) (λ l. from_lines e l es)
@@ -34,7 +25,7 @@ module _ (m : Meter) where
 
       look : (t : Bool) → ((l : List Line) → gather l ≡ lines m l (select (same_page e) es))
           → gather (pick t (add_line x.state.line (row_line (row_of m x)) ls) ls) ≡ lines m ls (keep t x (select (same_page e) es))
-      look true h = ap (λ (l : Line). gather (add_line x.state.line l ls)) (line_same x) ∙ h (add_line x.state.line (line_of m x) ls)
+      look true h = h (add_line x.state.line (line_of m x) ls)
       look false h = h ls
 
   -- the lines of the rows of es are those of the entries with e's page justification
@@ -48,7 +39,7 @@ module _ (m : Meter) where
   from_faults p e (x ∷ es) = look (same_page e x) (from_faults p e es)
     where
       own : Option (ℕ × ℕ)
-      own = fault_of (font_number (fault_number (m.fault x))) (fault_detail (m.fault x))
+      own = fault_of (font_only (fault_in (m.fault x)))
 
       rest : Option (ℕ × ℕ)
       rest = first_fault (row_fault e.state.just_page) (map (row_of m) es)

@@ -1,3 +1,4 @@
 pub mod Lists
-pub mod Offsets
+pub mod Gaps
+pub mod Feet
 pub mod Laws

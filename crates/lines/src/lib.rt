@@ -1,46 +1,125 @@
 // The lines of a page justification, and what stands above and below a line's foot.
 #![tactic(auto)]
 
-ghost use Rattle.std.specs.Prelude.{◌≡◌, ◌+◌, ◌≤◌, ◌<◌, max, length};
-ghost use Rattle.base.specs.Pick.{pick};
-ghost use Rattle.layout.specs.Placing.{combine as combine_of};
-ghost use Rattle.rows.specs.Rows.{RowRoom};
-ghost use Rattle.rows.specs.Measured.{font_number};
-ghost use Rattle.lines.specs.Lines.{SlotFor, line_is, LinesOf, gap_of, PageHeights, foot_in, heights_in};
+ghost use Rattle.std.specs.Prelude.{◌≡◌, ◌≤◌, ◌<◌};
+ghost use Rattle.layout.specs.Placing.{first_of as first_num, combine as combine_of, gap_above};
+ghost use Rattle.rows.specs.Measured.{font_only};
+ghost use Rattle.lines.specs.Lines.{line_is, line_above, row_line, RowAdded, LinesOf, PageHeights, foot_in, heights_in};
 
-use rows::Fault;
+use rows::{Fault, Row};
+use value::OptNum;
 
-// The lines: heights, font spacings, and in leads their own spacings, where led is 1. fault, detail: the first font fault
-// (10, 11) met while they were collected, or 0.
-#[derive(Clone, Copy)]
-pub struct LineList {
-    pub heights: [u16; 256],
-    pub font_spacings: [u16; 256],
-    pub led: [u16; 256],
-    pub leads: [u16; 256],
-    pub count: usize,
-    pub fault: u8,
-    pub detail: u16,
-}
-
-// One of them.
+// A line, and a span as a line of its own.
 #[derive(Clone, Copy)]
 struct TextLine {
     height: u16,
     font_spacing: u16,
-    led: u16,
-    lead: u16,
+    line_spacing: OptNum,
 }
 
-// The lines of page justification just, once they are summed up: their count, what they take in all, and their first font fault.
-// What stands above the foot of each is in a table by line number.
-#[derive(Clone, Copy)]
-pub struct PageLines {
-    pub just: u16,
-    pub count: usize,
-    pub total: u32,
-    pub fault: u8,
-    pub detail: u16,
+// The first of two numbers that is there.
+fn first_num(a: OptNum, b: OptNum) -> OptNum
+    ensures { result ≡ first_num a b }
+{
+    match a {
+        OptNum::Some(n) => OptNum::Some(n),
+        OptNum::None => b,
+    }
+}
+
+impl TextLine {
+    fn new(row: &Row) -> TextLine
+        ensures { line_is result ≡ row_line row.now }
+    {
+        TextLine {
+            height: row.height,
+            font_spacing: row.font_spacing,
+            line_spacing: row.lead,
+        }
+    }
+
+    // Two spans of one line: the larger of each, and the first spacing of its own.
+    fn combine(self, other: TextLine) -> TextLine
+        ensures { line_is result ≡ combine_of (line_is self) (line_is other) }
+    {
+        TextLine {
+            height: self.height.max(other.height),
+            font_spacing: self.font_spacing.max(other.font_spacing),
+            line_spacing: first_num(self.line_spacing, other.line_spacing),
+        }
+    }
+}
+
+// A font's fault: 12 is not one.
+fn font_only(fault: Option<Fault>) -> Option<Fault>
+    ensures { result ≡ font_only fault }
+{
+    fault.filter(|f| f.number != 12)
+}
+
+// The lines so far, each at its number, and the first font fault met while they were collected.
+#[derive(Drop)]
+struct LineList {
+    lines: [TextLine; 256],
+    count: usize,
+    fault: Option<Fault>,
+}
+
+impl LineList {
+    // A row more: it joins the line of its number, or is the next line.
+    fn add(&mut self, row: &Row)
+        requires { self.old.count ≤ 256 }
+        ensures { RowAdded self.old row.now self.new }
+    {
+        self.fault = self.fault.or(font_only(row.fault));
+        let own = TextLine::new(row);
+        let at = usize::from(row.line);
+        if at < self.count {
+            self.lines[at] = self.lines[at].combine(own);
+            return;
+        }
+        self.lines[self.count] = own;
+        self.count += 1;
+    }
+}
+
+// The lines of the rows with a page justification.
+fn line_list(rows: &[Row], just: u8) -> LineList
+    ensures { LinesOf rows.now just result }
+{
+    let blank = TextLine {
+        height: 0,
+        font_spacing: 0,
+        line_spacing: OptNum::None,
+    };
+    let mut list = LineList {
+        lines: [blank; 256],
+        count: 0,
+        fault: None,
+    };
+    for row in rows {
+        if row.just_page == just {
+            list.add(row);
+        }
+    }
+    list
+}
+
+// The spacing above a line.
+fn gap(char_height: u8, above: Option<TextLine>, line: TextLine) -> u32
+    ensures is { result ≡ gap_above char_height (line_above above) (line_is line) }
+    ensures small { result < 65536 }
+{
+    let Some(above) = above else {
+        return 0;
+    };
+    if char_height != 0 {
+        return 0;
+    }
+    match line.line_spacing {
+        OptNum::Some(n) => u32::from(n),
+        OptNum::None => rows::half_up(above.font_spacing, line.font_spacing),
+    }
 }
 
 // What stands above the foot of a line, and below it, and the first font fault of its page justification.
@@ -48,220 +127,51 @@ pub struct PageLines {
 pub struct Heights {
     pub above: u64,
     pub below: u64,
-    pub fault: u8,
-    pub detail: u16,
+    pub fault: Option<Fault>,
 }
 
-// Where a row goes, whether that line is there already, and how many lines there are then.
-#[derive(Clone, Copy)]
-struct Slot {
-    at: usize,
-    old: bool,
-    count: usize,
+// The lines of page justification just, summed up: what stands above the foot of each by its number, what they take in all (that is also
+// above the foot of a line that is not there), and their first font fault.
+#[derive(Drop)]
+pub struct PageLines {
+    pub just: u8,
+    feet: [u32; 256],
+    total: u32,
+    fault: Option<Fault>,
 }
 
-fn slot_of(line: u8, count: usize) -> Slot
-    requires { count ≤ 256 }
-    ensures { SlotFor line count result }
-{
-    let at = line as usize;
-    if at < count {
-        return Slot {
-            at,
-            old: true,
-            count,
-        };
-    }
-    Slot {
-        at: count,
-        old: false,
-        count: count + 1,
-    }
-}
-
-fn larger(a: u16, b: u16) -> u16
-    ensures { result ≡ max a b }
-{
-    if a < b {
-        return b;
-    }
-    a
-}
-
-// Two spans of one line: the larger of each, and the first spacing of its own.
-fn combine(a: TextLine, b: TextLine) -> TextLine
-    ensures { line_is result ≡ combine_of (line_is a) (line_is b) }
-{
-    let height = larger(a.height, b.height);
-    let font_spacing = larger(a.font_spacing, b.font_spacing);
-    if a.led == 1 {
-        return TextLine {
-            height,
-            font_spacing,
-            led: a.led,
-            lead: a.lead,
-        };
-    }
-    TextLine {
-        height,
-        font_spacing,
-        led: b.led,
-        lead: b.lead,
-    }
-}
-
-// A line with a span more, or the span's own line.
-fn grown(old: bool, a: TextLine, b: TextLine) -> TextLine
-    ensures { line_is result ≡ pick old (combine_of (line_is a) (line_is b)) (line_is b) }
-{
-    if old {
-        return combine(a, b);
-    }
-    b
-}
-
-// The number of a font's fault, or 0.
-fn font_number(n: u8) -> u8
-    ensures { result ≡ font_number n }
-{
-    if n == 12 {
-        return 0;
-    }
-    n
-}
-
-// The lines of the rows with a page justification.
-fn line_list(rows: &[u16], n: usize, just: u16) -> LineList
-    requires { (n ≤ 2048) × RowRoom n rows.now }
-    ensures { LinesOf rows.now n just result }
-{
-    let mut l = LineList {
-        heights: [0u16; 256],
-        font_spacings: [0u16; 256],
-        led: [0u16; 256],
-        leads: [0u16; 256],
-        count: 0,
-        fault: 0,
-        detail: 0,
-    };
-    let mut i: usize = 0;
-    while i < n {
-        let e = rows::row_at(rows, i);
-        if just != e.just_page {
-            i += 1;
-            continue;
+impl PageLines {
+    pub fn new(char_height: u8, rows: &[Row], just: u8) -> PageLines
+        ensures { PageHeights char_height rows.now just result }
+    {
+        let list = line_list(rows, just);
+        let mut feet = [0u32; 256];
+        let mut total: u32 = 0;
+        let mut above: Option<TextLine> = None;
+        for (i, line) in list.lines[..list.count].iter().enumerate() {
+            total += gap(char_height, above, *line) + u32::from(line.height);
+            feet[i] = total;
+            above = Some(*line);
         }
-        let s = slot_of(e.line, l.count);
-        let k = s.at;
-        let old = TextLine {
-            height: l.heights[k],
-            font_spacing: l.font_spacings[k],
-            led: l.led[k],
-            lead: l.leads[k],
-        };
-        let own = TextLine {
-            height: e.height,
-            font_spacing: e.font_spacing,
-            led: e.led,
-            lead: e.lead,
-        };
-        let line = grown(s.old, old, own);
-        l.heights[k] = line.height;
-        l.font_spacings[k] = line.font_spacing;
-        l.led[k] = line.led;
-        l.leads[k] = line.lead;
-        l.count = s.count;
-        let met = Fault {
-            number: l.fault,
-            detail: l.detail,
-        };
-        let font = Fault {
-            number: font_number(e.fault),
-            detail: e.detail,
-        };
-        let f = rows::earlier(met, font);
-        l.fault = f.number;
-        l.detail = f.detail;
-        i += 1;
+        feet[list.count..].fill(total);
+        PageLines {
+            just,
+            feet,
+            total,
+            fault: list.fault,
+        }
     }
-    l
-}
 
-// The spacing above line i: the line before has font spacing p, its own is s.
-fn gap(char_height: u8, i: usize, p: u16, s: u16, led: u16, lead: u16) -> u32
-    ensures { (result ≡ gap_of char_height i p s led lead) × (result < 65536) }
-{
-    if i == 0 {
-        return 0;
-    }
-    if char_height != 0 {
-        return 0;
-    }
-    if led == 1 {
-        return base::word32(lead);
-    }
-    let a = base::word32(p);
-    let b = base::word32(s);
-    (a + b + 1) / 2
-}
-
-// A sum with a spacing and a height more.
-fn added(sum: u32, g: u32, h: u16) -> u32
-    requires { (sum ≤ 33554432) × (g < 65536) }
-    ensures { (result ≡ sum + (g + h)) × (result ≤ sum + 131072) }
-{
-    sum + (g + base::word32(h))
-}
-
-// The lines of the rows with a page justification, with what stands above the foot of each in the table.
-pub fn page_lines(char_height: u8, rows: &[u16], n: usize, just: u16, feet: &mut [u32]) -> PageLines
-    requires { (n ≤ 2048) × RowRoom n rows.now × (length feet.old ≡ 256) }
-    ensures { PageHeights char_height rows.now n just feet.new result }
-{
-    let l = line_list(rows, n, just);
-    let mut sum: u32 = 0;
-    let mut p: u16 = 0;
-    let mut i: usize = 0;
-    while i < l.count {
-        let s = l.font_spacings[i];
-        let g = gap(char_height, i, p, s, l.led[i], l.leads[i]);
-        sum = added(sum, g, l.heights[i]);
-        feet[i] = sum;
-        p = s;
-        i += 1;
-    }
-    PageLines {
-        just,
-        count: l.count,
-        total: sum,
-        fault: l.fault,
-        detail: l.detail,
-    }
-}
-
-// What stands above the foot of a line; all that there is, where no line has the number.
-fn foot_of(p: PageLines, feet: &[u32], line: u8) -> u32
-    requires { length feet.now ≡ 256 }
-    ensures { result ≡ foot_in p feet.now line }
-{
-    let at = line as usize;
-    if at < p.count {
-        return feet[at];
-    }
-    p.total
-}
-
-// What stands above the foot of a line, and below it.
-pub fn offset_vert(p: PageLines, feet: &[u32], line: u8) -> Heights
-    requires { (length feet.now ≡ 256) × (foot_in p feet.now line ≤ p.total) }
-    ensures { result ≡ heights_in p feet.now line }
-{
-    let foot = foot_of(p, feet, line);
-    let rest = p.total - foot;
-    Heights {
-        above: base::long64(foot),
-        below: base::long64(rest),
-        fault: p.fault,
-        detail: p.detail,
+    // What stands above the foot of a line, and below it.
+    pub fn offset_vert(&self, line: u8) -> Heights
+        requires { foot_in self.now line ≤ self.now.total }
+        ensures { result ≡ heights_in self.now line }
+    {
+        let foot = self.feet[usize::from(line)];
+        Heights {
+            above: u64::from(foot),
+            below: u64::from(self.total - foot),
+            fault: self.fault,
+        }
     }
 }

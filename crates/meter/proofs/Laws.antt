@@ -63,7 +63,6 @@ text_found chs spacing l r h e = record { is = e; fits = rw e (after_fits chs sp
 pub part_text : (call : Call) (chs : List Character) (spacing : ℕ) (e : Entry) (r : Looked) {i n : ℕ} → EntryIn call e → e.kind ≡ 0 → i ≡ e.start → n ≡ e.len
     → r ≡ measure_of chs spacing (codes (take 65000 (take (i + n - i) (drop i call.msg.now))))
     → WidthFound chs spacing (part_codes call.msg.now e) r
-unfolding part_codes
 part_text call chs spacing e r {i} {n} so k a b q =
     text_found chs spacing (part_codes call.msg.now e) r (so.codes_fit k) (q ∙ ap (λ (l : List ℕ). measure_of chs spacing (codes l)) all)
   where
@@ -90,7 +89,6 @@ fault_parts msg e capitals f (num n) m q = go (eqb n f.version) m q
     go false x d = refl
 
 gauge_none : (l : List ℕ) (e : Entry) (t : Bool) → gauge_for l e t none ≡ gauge_for [] e false none
-unfolding gauge_for
 gauge_none l e t = refl
 
 -- ---- the font of a span
@@ -108,7 +106,6 @@ module _ (file : List ℕ) (t : SignFile) (b : Bytes file) (o : AcceptedTable fi
   found = e ∙ table_holds file t here n
 
   back : (g : Font) → GoodFont file g → font_at file (entry_of g) ≡ g
-  unfolding font_at
   back g k = rw (entry_stands file g k)
 
   entry_font : (x : FontEntry) → f ≡ EntryIs x → font_numbered n (fonts_in (sign_file file)) ≡ some (font_at file x)
@@ -149,7 +146,7 @@ module _ (call : Call) (e : Entry) {f : FontFound} (p : f ≡ entry_numbered e.s
 
   -- the gauge of a span in the font that was found, or in none
   gauge_found : (o : Option Font) (g : Gauged) → font_numbered e.state.font (fonts_in (sign_file call.file.now)) ≡ o → GaugedIn call e o g → GaugedBy call e g
-  unfolding meter_in meter_of gauge_for
+  unfolding meter_in meter_of
   gauge_found o g h q =
       let c : call.table.config.capitals ≡ capitals_in (sign_file call.file.now) = sym (ap capitals_in opened.is) in
       record {

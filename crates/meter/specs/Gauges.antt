@@ -51,7 +51,7 @@ CodeFits (Width w) = Unit {0}
 CodeFits (Missing c) = c < 65536
 
 -- the code points of the part of a message that is an entry's
-unfoldable pub part_codes : List ℕ → Entry → List ℕ
+abbrev pub part_codes : List ℕ → Entry → List ℕ
 part_codes msg e = codes (take e.len (drop e.start msg))
 
 -- the measure of these codes: their width, and how many were looked up
@@ -65,7 +65,7 @@ pub record EntryIn (call : Call) (e : Entry) : Type 0 where
   pub codes_fit : e.kind ≡ 0 → CodesFit (part_codes call.msg.now e)
 
 -- the font of an entry of the table
-unfoldable pub font_at : List ℕ → FontEntry → Font
+abbrev pub font_at : List ℕ → FontEntry → Font
 font_at file f =
     record {
       number = f.number;
@@ -88,7 +88,7 @@ missing_fault (Width w) = None
 missing_fault (Missing c) = Some (record { number = 12; detail = c })
 
 -- what is said of a span in its font, if that is defined
-unfoldable pub gauge_for : List ℕ → Entry → Bool → MathOption Font → Gauge
+abbrev pub gauge_for : List ℕ → Entry → Bool → MathOption Font → Gauge
 gauge_for msg e capitals o =
     record {
       spacing = spacing_in msg e o;

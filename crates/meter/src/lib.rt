@@ -16,7 +16,7 @@ use sign::FontEntry;
 use value::OptNum;
 
 // The width of a character alone.
-#[tactic(auto, unfolding(font::specs::Measure::text_width, font::specs::Measure::width_after, font::specs::Measure::looked_up, font::specs::Character::character_in))]
+#[tactic(auto, unfolding(font::specs::Measure::text_width, font::specs::Measure::width_after, font::specs::Measure::looked_up))]
 fn hex_width(call: &Call, f: FontEntry, widths: &[u16], code: u16, spacing: u16) -> Looked
     requires { FontWidths call.now f widths.now }
     ensures { WidthFound (font_letters call.now f) spacing (code ∷ []) result }
@@ -46,7 +46,7 @@ fn part_width(call: &Call, f: FontEntry, widths: &[u16], e: Entry, spacing: u16)
 }
 
 // The width of what a span prints.
-#[tactic(auto, unfolding(crate::specs::Gauges::part_codes, font::specs::Measure::text_width, font::specs::Measure::width_after, font::specs::Measure::looked_up))]
+#[tactic(auto, unfolding(font::specs::Measure::text_width, font::specs::Measure::width_after, font::specs::Measure::looked_up))]
 fn span_width(call: &Call, f: FontEntry, widths: &[u16], e: Entry, spacing: u16) -> Looked
     requires widths { FontWidths call.now f widths.now }
     requires entry_in { EntryIn call.now e }
@@ -106,7 +106,7 @@ pub struct Gauged {
 }
 
 // A span in a font.
-#[tactic(auto, using(crate::proofs::Laws::fault_parts), unfolding(crate::specs::Gauges::gauge_for, crate::specs::Gauges::font_at, layout::specs::Fonts::measure_in, font::specs::Character::letters_at))]
+#[tactic(auto, using(crate::proofs::Laws::fault_parts), unfolding(layout::specs::Fonts::measure_in, font::specs::Character::letters_at))]
 fn gauge_in(call: &Call, f: FontEntry, widths: &[u16], e: Entry) -> Gauged
     requires widths { FontWidths call.now f widths.now }
     requires entry_in { EntryIn call.now e }
@@ -130,7 +130,6 @@ fn gauge_in(call: &Call, f: FontEntry, widths: &[u16], e: Entry) -> Gauged
 }
 
 // A span whose font is not defined.
-#[tactic(auto, unfolding(crate::specs::Gauges::gauge_for))]
 fn no_font(e: Entry) -> Gauge
     ensures { result ≡ gauge_for [] e false none }
 {

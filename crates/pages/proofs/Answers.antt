@@ -11,7 +11,6 @@ use Rattle.token.specs.Token.{slices}
 use Rattle.base.specs.Pick.{pick}
 use Rattle.refusal.specs.declared.Refusal.{Refusal}
 use Rattle.records.specs.declared.Config.{Config}
-use Rattle.sign.specs.declared.SignFile.{SignFile}
 use Rattle.layout.specs.declared.RenderState.{RenderState}
 use Rattle.layout.specs.Types.{Item, items, Board}
 use Rattle.layout.specs.Read.{Scan, scan, stop_if, start, read, opening, events}
@@ -24,17 +23,24 @@ use Rattle.page.specs.declared.PageState.TheVariants.{On as OnState, Off as OffS
 use Rattle.page.specs.State.{new_page as new_state, done_after, next_state}
 use Rattle.page.specs.Scan.{fault_is, told as scan_told, items_from}
 use Rattle.rows.specs.Rows.{spans_of}
+use Rattle.layout.specs.declared.Span.{Span}
+use Rattle.rows.specs.declared.Row.{Row}
+use Rattle.meter.specs.declared.call.Call.{Call}
+use Rattle.pass.specs.Pass.{items_in}
 use Rattle.pages.specs.declared.PageDone.{PageDone}
 use Rattle.pages.specs.declared.Pages.{Pages}
 use Rattle.pages.specs.declared.PageShown.{PageShown}
-use Rattle.pages.specs.Pages.{board_in, looked_for, run, turned, page_told, PageInMessage, PageRendered, pages_at, state_after, off_shown, off_left, first_of, todo_by, todo, shown_page, on_told, InMessage, weight, Advances, NextAsked, OnRead, NextRead}
+use Rattle.pages.specs.Pages.{board_of, looked_for, run, turned, page_told, PageInMessage, PageRendered, pages_at, state_after, off_shown, off_left, first_of, todo_by, todo, shown_page, on_told, InMessage, weight, Advances, NextAsked, OnRead, NextRead}
 use Rattle.pages.proofs.Laws.{whole_inside}
 
 -- ---- an on page
 
+pub fault_none : (o : OptRefusal) → ((x : Refusal) → o ≡ Some x → ⊥) → o ≡ None
+fault_none None h = refl
+fault_none (Some x) h = absurd (h x refl)
+
 -- nothing is looked up before its first pass
-pub none_looked : (file msg out : List ℕ) → 0 ≡ looked_for file msg out 0
-unfolding spans_of
+pub none_looked : (file msg : List ℕ) (out : List Span) → 0 ≡ looked_for file msg out 0
 none_looked file msg out = refl
 
 -- q is the answer of the scan
@@ -88,38 +94,38 @@ after_weight : (m : Bool) (b : ℕ) → weight (state_after m b) ≤ 2 * pick m 
 after_weight true b = new_weight (ltb 0 b)
 after_weight false b = done_weight (ltb 0 b)
 
-module _ {file : List ℕ} {table : SignFile} {msg : List ℕ} {p : Pages} {rows out : List ℕ} (asked : NextAsked file table msg p rows out)
-    (q : PageScan) (e : scan_told q ≡ scan table.config p.on p.off (items_from table.config p.at msg)) where
+module _ {call : Call} {p : Pages} {rows : List Row} {out : List Span} (asked : NextAsked call p rows out)
+    (q : PageScan) (e : scan_told q ≡ scan call.table.config p.on p.off (items_in call p.at)) where
   abbrev s : Board
-  s = board_in file msg table.config
+  s = board_of call
 
   abbrev its : List Item
-  its = items_from table.config p.at msg
+  its = items_in call p.at
 
-  pub on_stop : {x : Refusal} → q.fault ≡ Some x → OnRead file table msg p rows out p rows out (Err x)
-  on_stop {x} h = record { ends = on_refused s msg its p.on p.off p.render_state q e x h; next = tt; rowed = refl; room = refl }
+  pub on_stop : {x : Refusal} → q.fault ≡ Some x → OnRead call p rows out p rows out (Err x)
+  on_stop {x} h = record { ends = on_refused s call.msg.now its p.on p.off p.render_state q e x h; next = tt; rowed = refl; room = refl }
 
   -- a page ended so
-  module _ {rows' out' : List ℕ} {v : Result PageDone Refusal} (h : q.fault ≡ None)
-      (t : PageRendered file table msg p.at p.render_state rows out rows' out' v) where
-    tells : {u : Result PageDone Refusal} → v ≡ u → turned s its p.on p.off p.render_state ≡ page_told s msg q.on q.off out' u
-    tells g = on_run s msg its p.on p.off p.render_state q e h ∙ t.ends q.on q.off ∙ ap (page_told s msg q.on q.off out') g
+  module _ {rows' : List Row} {out' : List Span} {v : Result PageDone Refusal} (h : q.fault ≡ None)
+      (t : PageRendered call p.at p.render_state rows out rows' out' v) where
+    tells : {u : Result PageDone Refusal} → v ≡ u → turned s its p.on p.off p.render_state ≡ page_told s call.msg.now q.on q.off out' u
+    tells g = on_run s call.msg.now its p.on p.off p.render_state q e h ∙ t.ends q.on q.off ∙ ap (page_told s call.msg.now q.on q.off out') g
 
-    pub on_refuse : {x : Refusal} → v ≡ Err x → OnRead file table msg p rows out p rows' out' (Err x)
+    pub on_refuse : {x : Refusal} → v ≡ Err x → OnRead call p rows out p rows' out' (Err x)
     on_refuse g = record { ends = tells g; next = tt; rowed = t.rowed; room = t.room }
 
     pub on_page : {d : PageDone} {x : PageState} → v ≡ Ok d → x ≡ state_after d.more q.off
-        → OnRead file table msg p rows out (pages_at d.reached.at d.reached.state q.on q.off x) rows' out'
+        → OnRead call p rows out (pages_at d.reached.at d.reached.state q.on q.off x) rows' out'
         (Ok (record { on = true; duration = q.on; count = d.reached.count; looked = d.reached.looked }))
     on_page {d} g k =
-        let f : PageInMessage file msg out' table.config p.at d =
-        subst (λ (r : Result PageDone Refusal). IfOk r (PageInMessage file msg out' table.config p.at)) g t.done in
+        let f : PageInMessage call out' p.at d =
+        subst (λ (r : Result PageDone Refusal). IfOk r (PageInMessage call out' p.at)) g t.done in
         record {
           ends =
               tells g
               ∙ ap (λ (x : List Page). on q.on (spans_of out' d.reached.count) ∷ x)
-              (after_todo s msg d.reached.at d.reached.state q.on q.off d.more
-              ∙ ap (λ (x : PageState). todo s msg (pages_at d.reached.at d.reached.state q.on q.off x)) (sym k));
+              (after_todo s call.msg.now d.reached.at d.reached.state q.on q.off d.more
+              ∙ ap (λ (x : PageState). todo s call.msg.now (pages_at d.reached.at d.reached.state q.on q.off x)) (sym k));
           next =
               record {
                 stands = record { within = f.within; inside = f.inside };
@@ -134,19 +140,19 @@ module _ {file : List ℕ} {table : SignFile} {msg : List ℕ} {p : Pages} {rows
 
 -- ---- the next answer
 
-module _ {file : List ℕ} {table : SignFile} {msg : List ℕ} {p : Pages} {rows out : List ℕ} where
+module _ {call : Call} {p : Pages} {rows : List Row} {out : List Span} where
   -- after an on page
-  module _ {p' : Pages} {rows' out' : List ℕ} {b : Bool} {r : Result PageShown Refusal} (q : p.page_state ≡ OnState b)
-      (h : OnRead file table msg p rows out p' rows' out' r) where
+  module _ {p' : Pages} {rows' : List Row} {out' : List Span} {b : Bool} {r : Result PageShown Refusal} (q : p.page_state ≡ OnState b)
+      (h : OnRead call p rows out p' rows' out' r) where
     -- so the next answer is
     abbrev Tells : Result (Maybe PageShown) Refusal → Type 0
-    Tells = NextRead file table msg p rows out p' rows' out'
+    Tells = NextRead call p rows out p' rows' out'
 
     abbrev sign : Board
-    sign = board_in file msg table.config
+    sign = board_of call
 
-    on_ends : {u : Result PageShown Refusal} → r ≡ u → todo sign msg p ≡ on_told sign msg out' p' u
-    on_ends k = ap (todo_by sign msg p) q ∙ h.ends ∙ ap (on_told sign msg out' p') k
+    on_ends : {u : Result PageShown Refusal} → r ≡ u → todo sign call.msg.now p ≡ on_told sign call.msg.now out' p' u
+    on_ends k = ap (todo_by sign call.msg.now p) q ∙ h.ends ∙ ap (on_told sign call.msg.now out' p') k
 
     pub next_refused : {x : Refusal} → r ≡ Err x → Tells (Err x)
     next_refused k = record { ends = on_ends k; next = tt; rowed = h.rowed; room = h.room }
@@ -156,26 +162,25 @@ module _ {file : List ℕ} {table : SignFile} {msg : List ℕ} {p : Pages} {rows
         record {
           ends = on_ends k;
           next =
-              subst (λ (w : ℕ). Advances file msg out' table.config p.at w p' x) (sym (ap weight q))
-              (subst (λ (u : Result PageShown Refusal). IfOk u (Advances file msg out' table.config p.at 2 p')) k h.next);
+              subst (λ (w : ℕ). Advances call out' p.at w p' x) (sym (ap weight q))
+              (subst (λ (u : Result PageShown Refusal). IfOk u (Advances call out' p.at 2 p')) k h.next);
           rowed = h.rowed;
           room = h.room;
         }
 
-module _ {file : List ℕ} {table : SignFile} {msg : List ℕ} {p : Pages} {rows out : List ℕ} (z : NextAsked file table msg p rows out) where
+module _ {call : Call} {p : Pages} {rows : List Row} {out : List Span} (z : NextAsked call p rows out) where
   abbrev board : Board
-  board = board_in file msg table.config
+  board = board_of call
 
   -- what an off page leaves
   abbrev left : PageState → Pages
   left x = pages_at p.at p.render_state p.on p.off (next_state x)
 
-  off_ends : (b : Bool) → todo_by board msg p (OffState b) ≡ shown_page out (off_shown p) ∷ todo board msg (left (OffState b))
+  off_ends : (b : Bool) → todo_by board call.msg.now p (OffState b) ≡ shown_page out (off_shown p) ∷ todo board call.msg.now (left (OffState b))
   off_ends true = refl
   off_ends false = refl
 
-  off_advances : (b : Bool) → Advances file msg out table.config p.at (weight (OffState b)) (left (OffState b)) (off_shown p)
-  unfolding spans_of
+  off_advances : (b : Bool) → Advances call out p.at (weight (OffState b)) (left (OffState b)) (off_shown p)
   off_advances true =
       record {
         stands = record { within = z.stands.within; inside = z.stands.inside };
@@ -194,20 +199,20 @@ module _ {file : List ℕ} {table : SignFile} {msg : List ℕ} {p : Pages} {rows
       }
 
   pub next_off : {b : Bool} {p' : Pages} {x : PageShown} → p.page_state ≡ OffState b → p' ≡ off_left p → x ≡ off_shown p
-      → NextRead file table msg p rows out p' rows out (Ok (There x))
+      → NextRead call p rows out p' rows out (Ok (There x))
   next_off {b} q k w =
       rw (k, w)
       (record {
         ends =
-            ap (todo_by board msg p) q ∙ off_ends b
-            ∙ ap (λ (x : PageState). shown_page out (off_shown p) ∷ todo board msg (left x)) (sym q);
-        next = subst (λ (x : PageState). Advances file msg out table.config p.at (weight x) (left x) (off_shown p)) (sym q) (off_advances b);
+            ap (todo_by board call.msg.now p) q ∙ off_ends b
+            ∙ ap (λ (x : PageState). shown_page out (off_shown p) ∷ todo board call.msg.now (left x)) (sym q);
+        next = subst (λ (x : PageState). Advances call out p.at (weight x) (left x) (off_shown p)) (sym q) (off_advances b);
         rowed = refl;
         room = refl;
       })
 
-  pub next_done : p.page_state ≡ Done → NextRead file table msg p rows out p rows out (Ok Gone)
-  next_done q = record { ends = ap (todo_by board msg p) q; next = tt; rowed = refl; room = refl }
+  pub next_done : p.page_state ≡ Done → NextRead call p rows out p rows out (Ok Gone)
+  next_done q = record { ends = ap (todo_by board call.msg.now p) q; next = tt; rowed = refl; room = refl }
 
 -- ---- before the first answer
 
@@ -218,5 +223,5 @@ pub pages_todo : (s : Board) (msg : List ℕ) → pages s (items s.config msg) �
 unfolding pages events opening turned items items_from slices
 pages_todo s msg = refl
 
-pub first_in_law : (c : Config) (all : ℕ) → InMessage c all (first_of c)
-first_in_law c all = record { within = omega arith; inside = whole_inside c }
+pub first_in_law : (call : Call) → InMessage call (first_of call.table.config)
+first_in_law call = record { within = omega arith; inside = whole_inside call.table.config }

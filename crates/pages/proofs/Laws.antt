@@ -13,7 +13,6 @@ use borrow.Author.Tests.{lt-ltb, le-ltb}
 use Rattle.base.specs.Pick.{pick}
 use Rattle.refusal.specs.declared.Refusal.{Refusal}
 use Rattle.records.specs.declared.Config.{Config}
-use Rattle.sign.specs.declared.SignFile.{SignFile}
 use Rattle.layout.specs.declared.RenderState.{RenderState}
 use Rattle.layout.specs.declared.Entry.{Entry}
 use Rattle.layout.specs.declared.Span.{Span}
@@ -22,16 +21,17 @@ use Rattle.refusal.specs.Refusals.{refusal}
 use Rattle.layout.specs.Read.{Event, new_page, whole}
 use Rattle.layout.specs.Placing.{or_else, unless, pass_fault, pass_records}
 use Rattle.layout.specs.Listing.{Page, on, refused as refused_page, offs, stop_at, walk}
-use Rattle.page.specs.Scan.{items_from}
 use Rattle.rows.specs.Rows.{spans_of}
 use Rattle.pass.specs.declared.How.{How}
 use Rattle.pass.specs.declared.How.TheVariants.{Cut as ByCut, Turn as ByTurn, End as ByEnd}
 use Rattle.pass.specs.declared.PassDone.{PassDone}
 use Rattle.pass.specs.declared.Reached.{Reached}
-use Rattle.pass.specs.Pass.{Ending, refused, ended, entries_of, ending_of, events_after, events_by, start_at, told, Inside, tag_bytes}
+use Rattle.pass.specs.Pass.{Ending, refused, ended, entries_of, ending_of, events_after, events_by, start_at, told, items_in, entries_from, Inside, tag_bytes}
 use Rattle.pass.proofs.Read.{read_pass}
+use Rattle.rows.specs.declared.Row.{Row}
+use Rattle.meter.specs.declared.call.Call.{Call}
 use Rattle.pages.specs.declared.PageDone.{PageDone}
-use Rattle.pages.specs.Pages.{board_in, Ready, looked_for, RenderAsked, stop_by, placed_ending, SpansPlaced, PassRendered, run, turned, page_done, page_told, PageRendered}
+use Rattle.pages.specs.Pages.{board_of, Ready, looked_for, RenderAsked, stop_by, placed_ending, SpansPlaced, PassRendered, run, turned, page_done, page_told, PageRendered}
 
 -- ---- layout's answers, by a pass's ending
 
@@ -81,26 +81,25 @@ module _ (s : Board) (its : List Item) (a b : ℕ) (st : RenderState) (rs : List
 -- ---- the loop over the passes of a page
 
 -- where the loop stands: first is the state it began with, rows₀ and out₀ the slices
-pub record Stands (file : List ℕ) (table : SignFile) (msg : List ℕ) (from : ℕ) (first : RenderState) (rows₀ out₀ rows out : List ℕ)
+pub record Stands (call : Call) (from : ℕ) (first : RenderState) (rows₀ : List Row) (out₀ : List Span) (rows : List Row) (out : List Span)
     (p : Reached) (k : ℕ) : Type 0 where
-  pub ready : Ready file table msg rows₀ out₀
+  pub ready : Ready call rows₀ out₀
   pub counted : p.count ≤ p.at
-  pub summed : p.looked ≡ looked_for file msg out p.count
+  pub summed : p.looked ≡ looked_for call.file.now call.msg.now out p.count
   pub few : p.looked ≤ p.at
   pub begun : from ≤ p.at
-  pub within : p.at ≤ length msg
-  pub inside : Inside table.config p.state.rect
+  pub within : p.at ≤ length call.msg.now
+  pub inside : Inside call.table.config p.state.rect
   pub rowed : length rows ≡ length rows₀
   pub room : length out ≡ length out₀
   pub same : (a b : ℕ)
-      → run (board_in file msg table.config) (items_from table.config p.at msg) a b p.state (spans_of out p.count) k
-      ≡ run (board_in file msg table.config) (items_from table.config from msg) a b first [] 0
+      → run (board_of call) (items_in call p.at) a b p.state (spans_of out p.count) k
+      ≡ run (board_of call) (items_in call from) a b first [] 0
 
-pub page_start : {file : List ℕ} {table : SignFile} {msg : List ℕ} {from : ℕ} {first : RenderState} {rows out : List ℕ} {p : Reached}
-    → RenderAsked file table msg rows out (start_at from first) → p ≡ start_at from first → Stands file table msg from first rows out rows out p 0
-unfolding spans_of
-page_start {file} {table} {msg} {from} {first} {rows} {out} h e =
-    subst (λ (p : Reached). Stands file table msg from first rows out rows out p 0) (sym e)
+pub page_start : {call : Call} {from : ℕ} {first : RenderState} {rows : List Row} {out : List Span} {p : Reached}
+    → RenderAsked call rows out (start_at from first) → p ≡ start_at from first → Stands call from first rows out rows out p 0
+page_start {call} {from} {first} {rows} {out} h e =
+    subst (λ (p : Reached). Stands call from first rows out rows out p 0) (sym e)
     (record {
       ready = h.ready;
       counted = omega arith;
@@ -117,13 +116,12 @@ page_start {file} {table} {msg} {from} {first} {rows} {out} h e =
 pub whole_inside : (c : Config) → Inside c (whole c)
 whole_inside c = record { across = omega arith; down = omega arith }
 
-module _ {file : List ℕ} {table : SignFile} {msg : List ℕ} {from : ℕ} {first : RenderState} {rows₀ out₀ rows out : List ℕ}
-    {p : Reached} {k : ℕ} (z : Stands file table msg from first rows₀ out₀ rows out p k) where
-  pub page_asks : RenderAsked file table msg rows out p
+module _ {call : Call} {from : ℕ} {first : RenderState} {rows₀ : List Row} {out₀ : List Span} {rows : List Row} {out : List Span}
+    {p : Reached} {k : ℕ} (z : Stands call from first rows₀ out₀ rows out p k) where
+  pub page_asks : RenderAsked call rows out p
   page_asks =
-      let r : Ready file table msg rows₀ out₀ = z.ready in
       record {
-        ready = record { opened = r.opened; small = r.small; rowed = omega arith; room = omega arith };
+        ready = record { rowed = omega (arith, z.ready.rowed); room = omega (arith, z.ready.room) };
         within = z.within;
         counted = z.counted;
         looked = z.summed;
@@ -132,20 +130,20 @@ module _ {file : List ℕ} {table : SignFile} {msg : List ℕ} {from : ℕ} {fir
       }
 
   abbrev s : Board
-  s = board_in file msg table.config
+  s = board_of call
 
   abbrev es : List Entry
-  es = entries_of s.config (items_from s.config p.at msg) p.state true
+  es = entries_from call p.at p.state true
 
   -- the whole page
   abbrev whole_run : ℕ → ℕ → List Page
-  whole_run a b = run s (items_from s.config from msg) a b first [] 0
+  whole_run a b = run s (items_in call from) a b first [] 0
 
   -- a pass was read and placed: t is its end
-  module _ {rows' out' : List ℕ} {t : Result PassDone Refusal} (g : PassRendered file table msg p rows out rows' out' t) where
+  module _ {rows' : List Row} {out' : List Span} {t : Result PassDone Refusal} (g : PassRendered call p rows out rows' out' t) where
     -- a page that ended so
     abbrev Ends : Result PageDone Refusal → Type 0
-    Ends = PageRendered file table msg from first rows₀ out₀ rows' out'
+    Ends = PageRendered call from first rows₀ out₀ rows' out'
 
     pub page_rowed : length rows' ≡ length rows₀
     page_rowed = g.rowed ∙ z.rowed
@@ -153,11 +151,11 @@ module _ {file : List ℕ} {table : SignFile} {msg : List ℕ} {from : ℕ} {fir
     pub page_room : length out' ≡ length out₀
     page_room = g.room ∙ z.room
 
-    came : (a b : ℕ) {u : Result PassDone Refusal} → t ≡ u → run_by s a b k (spans_of out p.count) es (told s.config msg u) ≡ whole_run a b
+    came : (a b : ℕ) {u : Result PassDone Refusal} → t ≡ u → run_by s a b k (spans_of out p.count) es (told s.config call.msg.now u) ≡ whole_run a b
     came a b q =
-        ap (λ (x : Result PassDone Refusal). run_by s a b k (spans_of out p.count) es (told s.config msg x)) (sym q)
+        ap (λ (x : Result PassDone Refusal). run_by s a b k (spans_of out p.count) es (told s.config call.msg.now x)) (sym q)
         ∙ ap (run_by s a b k (spans_of out p.count) es) g.ends
-        ∙ sym (run_pass s (items_from s.config p.at msg) a b p.state (spans_of out p.count) k)
+        ∙ sym (run_pass s (items_in call p.at) a b p.state (spans_of out p.count) k)
         ∙ z.same a b
 
     pub page_refuse : {x : Refusal} → t ≡ Err x → Ends (Err x)
@@ -165,8 +163,8 @@ module _ {file : List ℕ} {table : SignFile} {msg : List ℕ} {from : ℕ} {fir
 
     -- it is done, by h, and not the 51st
     module _ {d : PassDone} (q : t ≡ Ok d) {h : How} (e : d.how ≡ h) (few : k < 50) where
-      placed : SpansPlaced file s es msg p.at out p.count out' d
-      placed = subst (λ (r : Result PassDone Refusal). IfOk r (SpansPlaced file s es msg p.at out p.count out')) q g.done
+      placed : SpansPlaced call p out out' d
+      placed = subst (λ (r : Result PassDone Refusal). IfOk r (SpansPlaced call p out out')) q g.done
 
       not_full : full k ≡ none
       unfolding unless
@@ -174,7 +172,7 @@ module _ {file : List ℕ} {table : SignFile} {msg : List ℕ} {from : ℕ} {fir
 
       -- what follows it, with the records rs
       abbrev next : List Span → How → ℕ → ℕ → List Page
-      next rs u a b = onward s a b k rs u d.reached.state (items_from s.config d.reached.at msg)
+      next rs u a b = onward s a b k rs u d.reached.state (items_in call d.reached.at)
 
       here : (a b : ℕ) → next (spans_of out' d.reached.count) h a b ≡ whole_run a b
       here a b =
@@ -184,7 +182,7 @@ module _ {file : List ℕ} {table : SignFile} {msg : List ℕ} {from : ℕ} {fir
       forth : p.at + tag_bytes h ≤ d.reached.at
       forth = subst (λ (u : How). p.at + tag_bytes u ≤ d.reached.at) e placed.forward
 
-      finish : {m : Bool} {v : PageDone} → ((a b : ℕ) → whole_run a b ≡ page_told s msg a b out' (Ok (page_done s.config m d.reached)))
+      finish : {m : Bool} {v : PageDone} → ((a b : ℕ) → whole_run a b ≡ page_told s call.msg.now a b out' (Ok (page_done s.config m d.reached)))
           → pick m 1 0 ≤ tag_bytes h → v ≡ page_done s.config m d.reached → Ends (Ok v)
       finish f l w =
           subst (λ (x : PageDone). Ends (Ok x)) (sym w)
@@ -197,13 +195,13 @@ module _ {file : List ℕ} {table : SignFile} {msg : List ℕ} {from : ℕ} {fir
                   short = omega (arith, placed.few, placed.within);
                   forward = omega (arith, forth, z.begun, l);
                   within = placed.within;
-                  inside = whole_inside s.config;
+                  inside = whole_inside call.table.config;
                 };
             rowed = page_rowed;
             room = page_room;
           })
 
-      on_cut : h ≡ ByCut → Stands file table msg from first rows₀ out₀ rows' out' d.reached (k + 1)
+      on_cut : h ≡ ByCut → Stands call from first rows₀ out₀ rows' out' d.reached (k + 1)
       on_cut i =
           record {
             ready = z.ready;
@@ -216,17 +214,17 @@ module _ {file : List ℕ} {table : SignFile} {msg : List ℕ} {from : ℕ} {fir
             rowed = page_rowed;
             room = page_room;
             same = λ a b.
-                ap (run s (items_from s.config d.reached.at msg) a b d.reached.state (spans_of out' d.reached.count)) (add-one k)
+                ap (run s (items_in call d.reached.at) a b d.reached.state (spans_of out' d.reached.count)) (add-one k)
                 ∙ ap (λ (u : How). next (spans_of out' d.reached.count) u a b) (sym i) ∙ here a b;
           }
 
-    pub page_cut : {d : PassDone} → t ≡ Ok d → d.how ≡ ByCut → k < 50 → Stands file table msg from first rows₀ out₀ rows' out' d.reached (k + 1)
+    pub page_cut : {d : PassDone} → t ≡ Ok d → d.how ≡ ByCut → k < 50 → Stands call from first rows₀ out₀ rows' out' d.reached (k + 1)
     page_cut q e h = on_cut q e h refl
 
-    pub page_turn : {d : PassDone} {v : PageDone} → t ≡ Ok d → d.how ≡ ByTurn → k < 50 → v ≡ page_done table.config true d.reached → Ends (Ok v)
+    pub page_turn : {d : PassDone} {v : PageDone} → t ≡ Ok d → d.how ≡ ByTurn → k < 50 → v ≡ page_done call.table.config true d.reached → Ends (Ok v)
     page_turn q e h w = finish q e h (λ a b. sym (here q e h a b)) (omega arith) w
 
-    pub page_end : {d : PassDone} {v : PageDone} → t ≡ Ok d → d.how ≡ ByEnd → k < 50 → v ≡ page_done table.config false d.reached → Ends (Ok v)
+    pub page_end : {d : PassDone} {v : PageDone} → t ≡ Ok d → d.how ≡ ByEnd → k < 50 → v ≡ page_done call.table.config false d.reached → Ends (Ok v)
     page_end q e h w = finish q e h (λ a b. sym (here q e h a b)) (omega arith) w
 
     -- the 51st

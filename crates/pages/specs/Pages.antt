@@ -7,7 +7,6 @@ use Rattle.base.specs.Pick.{pick}
 use Rattle.refusal.specs.declared.Refusal.{Refusal}
 use Rattle.records.specs.declared.Config.{Config}
 use Rattle.sign.specs.Sign.{sign_file}
-use Rattle.sign.specs.declared.SignFile.{SignFile}
 use Rattle.layout.specs.declared.RenderState.{RenderState}
 use Rattle.layout.specs.declared.Entry.{Entry}
 use Rattle.layout.specs.declared.Span.{Span}
@@ -21,10 +20,12 @@ use Rattle.page.specs.State.{new_page as new_state, done_after, next_state}
 use Rattle.page.specs.Scan.{items_from}
 use Rattle.rows.specs.Rows.{RowRoom, SpanRoom, spans_of}
 use Rattle.counts.specs.Placing.{chars_looked}
-use Rattle.meter.specs.Gauges.{AcceptedTable, meter_in}
+use Rattle.rows.specs.declared.Row.{Row}
+use Rattle.meter.specs.declared.call.Call.{Call}
+use Rattle.meter.specs.Gauges.{meter_in}
 use Rattle.pass.specs.declared.PassDone.{PassDone}
 use Rattle.pass.specs.declared.Reached.{Reached}
-use Rattle.pass.specs.Pass.{Ending, refused, ended, entries_of, ending_of, told, Inside, tag_bytes}
+use Rattle.pass.specs.Pass.{Ending, refused, ended, items_in, entries_from, ending_from, told, Inside, tag_bytes}
 use Rattle.pages.specs.declared.PageDone.{PageDone}
 use Rattle.pages.specs.declared.Pages.{Pages}
 use Rattle.pages.specs.declared.PageShown.{PageShown}
@@ -33,25 +34,26 @@ use Rattle.pages.specs.declared.PageShown.{PageShown}
 abbrev pub board_in : List ℕ → List ℕ → Config → Board
 board_in file msg c = record { config = c; meter = meter_in file msg }
 
--- a message for an accepted file, with room for its rows and its records
-pub record Ready (file : List ℕ) (table : SignFile) (msg rows out : List ℕ) : Type 0 where
-  pub opened : AcceptedTable file table
-  pub small : length msg ≤ 2048
-  pub rowed : RowRoom (length msg) rows
-  pub room : SpanRoom (length msg) out
+abbrev pub board_of : Call → Board
+board_of call = board_in call.file.now call.msg.now call.table.config
+
+-- room for the rows and the records of the message
+pub record Ready (call : Call) (rows : List Row) (out : List Span) : Type 0 where
+  pub rowed : RowRoom (length call.msg.now) rows
+  pub room : SpanRoom (length call.msg.now) out
 
 -- how many characters were looked up for the first n records of out, in the fonts of a sign file
-abbrev pub looked_for : List ℕ → List ℕ → List ℕ → ℕ → ℕ
+abbrev pub looked_for : List ℕ → List ℕ → List Span → ℕ → ℕ
 looked_for file msg out n = chars_looked (sign_file file) msg (spans_of out n)
 
 -- what is to be read and placed behind what was reached of its page
-pub record RenderAsked (file : List ℕ) (table : SignFile) (msg rows out : List ℕ) (p : Reached) : Type 0 where
-  pub ready : Ready file table msg rows out
-  pub within : p.at ≤ length msg
+pub record RenderAsked (call : Call) (rows : List Row) (out : List Span) (p : Reached) : Type 0 where
+  pub ready : Ready call rows out
+  pub within : p.at ≤ length call.msg.now
   pub counted : p.count ≤ p.at
-  pub looked : p.looked ≡ looked_for file msg out p.count
+  pub looked : p.looked ≡ looked_for call.file.now call.msg.now out p.count
   pub few : p.looked ≤ p.at
-  pub inside : Inside table.config p.state.rect
+  pub inside : Inside call.table.config p.state.rect
 
 -- ---- a pass that is placed
 
@@ -63,29 +65,24 @@ abbrev pub placed_ending : Board → List Entry → Ending → Ending
 placed_ending s es (refused r) = refused r
 placed_ending s es (ended h r st its) = stop_by (pass_fault s r es) (ended h r st its)
 
--- its spans es are placed: the first records are those before it and its own, no more than there are bytes, and so many characters were looked up for
--- them; n records in out were there before it
-pub record SpansPlaced (file : List ℕ) (s : Board) (es : List Entry) (msg : List ℕ) (from : ℕ) (out : List ℕ) (n : ℕ) (out' : List ℕ)
-    (d : PassDone) : Type 0 where
-  pub written : spans_of out' d.reached.count ≡ spans_of out n ++ pass_records s d.rect es
-  pub looked : d.reached.looked ≡ looked_for file msg out' d.reached.count
+-- its spans are placed behind what was reached of its page: the first records are those before it and its own, no more than there are bytes, and so many
+-- characters were looked up for them; out were there before it
+pub record SpansPlaced (call : Call) (p : Reached) (out out' : List Span) (d : PassDone) : Type 0 where
+  pub written : spans_of out' d.reached.count ≡ spans_of out p.count ++ pass_records (board_of call) d.rect (entries_from call p.at p.state true)
+  pub looked : d.reached.looked ≡ looked_for call.file.now call.msg.now out' d.reached.count
   pub counted : d.reached.count ≤ d.reached.at
   pub few : d.reached.looked ≤ d.reached.at
-  pub forward : from + tag_bytes d.how ≤ d.reached.at
-  pub within : d.reached.at ≤ length msg
-  pub inside : Inside s.config d.reached.state.rect
+  pub forward : p.at + tag_bytes d.how ≤ d.reached.at
+  pub within : d.reached.at ≤ length call.msg.now
+  pub inside : Inside call.table.config d.reached.state.rect
 
--- the pass behind what was reached was read and placed, and ended so; rows and out were there before it, and rows' and out' are after it
-pub record PassRendered (file : List ℕ) (table : SignFile) (msg : List ℕ) (p : Reached) (rows out rows' out' : List ℕ) (r : Result PassDone Refusal)
+-- it was read and placed, and ended so; rows and out were there before it, and rows' and out' are after it
+pub record PassRendered (call : Call) (p : Reached) (rows : List Row) (out : List Span) (rows' : List Row) (out' : List Span) (r : Result PassDone Refusal)
     : Type 0 where
   pub ends :
-      told table.config msg r
-      ≡ placed_ending (board_in file msg table.config) (entries_of table.config (items_from table.config p.at msg) p.state true)
-      (ending_of table.config (items_from table.config p.at msg) p.state true)
-  pub done :
-      IfOk r
-      (SpansPlaced file (board_in file msg table.config) (entries_of table.config (items_from table.config p.at msg) p.state true) msg p.at out p.count
-      out')
+      told call.table.config call.msg.now r
+      ≡ placed_ending (board_of call) (entries_from call p.at p.state true) (ending_from call p.at p.state true)
+  pub done : IfOk r (SpansPlaced call p out out')
   pub rowed : length rows' ≡ length rows
   pub room : length out' ≡ length out
 
@@ -106,27 +103,27 @@ abbrev pub page_done : Config → Bool → Reached → PageDone
 page_done c more p = record { more = more; reached = record { at = p.at; count = p.count; looked = p.looked; state = new_page c p.state } }
 
 -- the answers that a page's end tells; l holds its records
-abbrev pub page_told : Board → List ℕ → ℕ → ℕ → List ℕ → Result PageDone Refusal → List Page
+abbrev pub page_told : Board → List ℕ → ℕ → ℕ → List Span → Result PageDone Refusal → List Page
 page_told s msg a b l (Err r) = refused_page r ∷ []
 page_told s msg a b l (Ok d) =
     on a (spans_of l d.reached.count) ∷ offs b (pick d.more (turned s (items_from s.config d.reached.at msg) a b d.reached.state) [])
 
 -- a page from a place on that is done has no more records than bytes, and no more characters looked up for them, and lies in the message; [np] has a byte
 -- at least; out holds its records
-pub record PageInMessage (file msg out : List ℕ) (c : Config) (from : ℕ) (d : PageDone) : Type 0 where
-  pub few : d.reached.count ≤ length msg
-  pub looked : d.reached.looked ≡ looked_for file msg out d.reached.count
-  pub short : d.reached.looked ≤ length msg
+pub record PageInMessage (call : Call) (out : List Span) (from : ℕ) (d : PageDone) : Type 0 where
+  pub few : d.reached.count ≤ length call.msg.now
+  pub looked : d.reached.looked ≡ looked_for call.file.now call.msg.now out d.reached.count
+  pub short : d.reached.looked ≤ length call.msg.now
   pub forward : from + pick d.more 1 0 ≤ d.reached.at
-  pub within : d.reached.at ≤ length msg
-  pub inside : Inside c d.reached.state.rect
+  pub within : d.reached.at ≤ length call.msg.now
+  pub inside : Inside call.table.config d.reached.state.rect
 
 -- the page from a place on was read and placed, and ended so
-pub record PageRendered (file : List ℕ) (table : SignFile) (msg : List ℕ) (from : ℕ) (first : RenderState) (rows out rows' out' : List ℕ)
+pub record PageRendered (call : Call) (from : ℕ) (first : RenderState) (rows : List Row) (out : List Span) (rows' : List Row) (out' : List Span)
     (r : Result PageDone Refusal) : Type 0 where
   pub ends : (a b : ℕ)
-      → run (board_in file msg table.config) (items_from table.config from msg) a b first [] 0 ≡ page_told (board_in file msg table.config) msg a b out' r
-  pub done : IfOk r (PageInMessage file msg out' table.config from)
+      → run (board_of call) (items_in call from) a b first [] 0 ≡ page_told (board_of call) call.msg.now a b out' r
+  pub done : IfOk r (PageInMessage call out' from)
   pub rowed : length rows' ≡ length rows
   pub room : length out' ≡ length out
 
@@ -161,23 +158,23 @@ abbrev pub todo : Board → List ℕ → Pages → List Page
 todo s msg p = todo_by s msg p p.page_state
 
 -- layout's page of an answer; l holds its records
-abbrev pub shown_page : List ℕ → PageShown → Page
+abbrev pub shown_page : List Span → PageShown → Page
 shown_page l x = pick x.on (on x.duration (spans_of l x.count)) (off x.duration)
 
 -- the answers to come as the next one tells them, which leaves p
-abbrev pub on_told : Board → List ℕ → List ℕ → Pages → Result PageShown Refusal → List Page
+abbrev pub on_told : Board → List ℕ → List Span → Pages → Result PageShown Refusal → List Page
 on_told s msg l p (Ok x) = shown_page l x ∷ todo s msg p
 on_told s msg l p (Err r) = refused_page r ∷ []
 
-abbrev pub next_told : Board → List ℕ → List ℕ → Pages → Result (Option PageShown) Refusal → List Page
+abbrev pub next_told : Board → List ℕ → List Span → Pages → Result (Option PageShown) Refusal → List Page
 next_told s msg l p (Ok (Some x)) = shown_page l x ∷ todo s msg p
 next_told s msg l p (Ok None) = []
 next_told s msg l p (Err r) = refused_page r ∷ []
 
 -- in the message and on the sign
-pub record InMessage (c : Config) (all : ℕ) (p : Pages) : Type 0 where
-  pub within : p.at ≤ all
-  pub inside : Inside c p.render_state.rect
+pub record InMessage (call : Call) (p : Pages) : Type 0 where
+  pub within : p.at ≤ length call.msg.now
+  pub inside : Inside call.table.config p.render_state.rect
 
 -- at most so many answers come from here to the next [np]: an off page that is due, an on page, and its off page
 abbrev pub weight : PageState → ℕ
@@ -191,32 +188,31 @@ abbrev pub IfShown : (PageShown → Type 0) → Result (Option PageShown) Refusa
 IfShown P r = IfOk r (λ o. IfSome o P)
 
 -- an answer takes one of them, or bytes of the message; at is the place and w the weight before it, and out holds its records
-pub record Advances (file msg out : List ℕ) (c : Config) (at w : ℕ) (p : Pages) (x : PageShown) : Type 0 where
-  pub stands : InMessage c (length msg) p
+pub record Advances (call : Call) (out : List Span) (at w : ℕ) (p : Pages) (x : PageShown) : Type 0 where
+  pub stands : InMessage call p
   pub less : 2 * at + weight p.page_state + 1 ≤ 2 * p.at + w
-  pub few : x.count ≤ length msg
-  pub looked : x.looked ≡ looked_for file msg out x.count
-  pub short : x.looked ≤ length msg
+  pub few : x.count ≤ length call.msg.now
+  pub looked : x.looked ≡ looked_for call.file.now call.msg.now out x.count
+  pub short : x.looked ≤ length call.msg.now
 
 -- an answer can be read
-pub record NextAsked (file : List ℕ) (table : SignFile) (msg : List ℕ) (p : Pages) (rows out : List ℕ) : Type 0 where
-  pub ready : Ready file table msg rows out
-  pub stands : InMessage table.config (length msg) p
+pub record NextAsked (call : Call) (p : Pages) (rows : List Row) (out : List Span) : Type 0 where
+  pub ready : Ready call rows out
+  pub stands : InMessage call p
 
 -- an on page was, and is r; p, rows and out were there before it, and p', rows' and out' are after it
-pub record OnRead (file : List ℕ) (table : SignFile) (msg : List ℕ) (p : Pages) (rows out : List ℕ) (p' : Pages) (rows' out' : List ℕ)
+pub record OnRead (call : Call) (p : Pages) (rows : List Row) (out : List Span) (p' : Pages) (rows' : List Row) (out' : List Span)
     (r : Result PageShown Refusal) : Type 0 where
   pub ends :
-      turned (board_in file msg table.config) (items_from table.config p.at msg) p.on p.off p.render_state
-      ≡ on_told (board_in file msg table.config) msg out' p' r
-  pub next : IfOk r (Advances file msg out' table.config p.at 2 p')
+      turned (board_of call) (items_in call p.at) p.on p.off p.render_state ≡ on_told (board_of call) call.msg.now out' p' r
+  pub next : IfOk r (Advances call out' p.at 2 p')
   pub rowed : length rows' ≡ length rows
   pub room : length out' ≡ length out
 
 -- an answer was
-pub record NextRead (file : List ℕ) (table : SignFile) (msg : List ℕ) (p : Pages) (rows out : List ℕ) (p' : Pages) (rows' out' : List ℕ)
+pub record NextRead (call : Call) (p : Pages) (rows : List Row) (out : List Span) (p' : Pages) (rows' : List Row) (out' : List Span)
     (r : Result (Option PageShown) Refusal) : Type 0 where
-  pub ends : todo (board_in file msg table.config) msg p ≡ next_told (board_in file msg table.config) msg out' p' r
-  pub next : IfShown (Advances file msg out' table.config p.at (weight p.page_state) p') r
+  pub ends : todo (board_of call) call.msg.now p ≡ next_told (board_of call) call.msg.now out' p' r
+  pub next : IfShown (Advances call out' p.at (weight p.page_state) p') r
   pub rowed : length rows' ≡ length rows
   pub room : length out' ≡ length out

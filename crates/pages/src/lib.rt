@@ -6,12 +6,13 @@ ghost use Rattle.refusal.specs.Refusals.{refusal as refusal_of};
 ghost use Rattle.pass.specs.Pass.{start_at};
 ghost use Rattle.pages.specs.Pages.{RenderAsked, PassRendered, page_done, PageRendered, state_after, off_shown, off_left, first_of, NextAsked, OnRead, NextRead};
 
-use layout::RenderState;
+use layout::{RenderState, Span};
+use meter::Call;
 use page::PageState;
 use pass::{How, PassDone, Reached};
 use records::Config;
 use refusal::{OptRefusal, Refusal};
-use sign::SignFile;
+use rows::Row;
 
 // The passes of a page beside its first one.
 const MAX_TEXT_RECTANGLES: usize = 50;
@@ -42,32 +43,28 @@ pub struct PageShown {
     pub looked: usize,
 }
 
-// The pass from a place on, read and placed as records behind those of the page so far: how it ends, with the page's counts.
+// The pass behind what was reached of its page, read and placed as records behind those of the page so far: how it ends, with the page's
+// counts.
 fn render_pass(
-    file: &[u8],
-    table: SignFile,
-    msg: &[u8],
+    call: &Call,
     p: Reached,
-    rows: &mut [u16],
-    out: &mut [u16],
+    rows: &mut [Row],
+    out: &mut [Span],
 ) -> Result<PassDone, Refusal>
-    requires { RenderAsked file.now table msg.now rows.old out.old p }
-    ensures { PassRendered file.now table msg.now p rows.old out.old rows.new out.new result }
+    requires { RenderAsked call.now rows.old out.old p }
+    ensures { PassRendered call.now p rows.old out.old rows.new out.new result }
 {
-    let d = pass::read_pass(file, table, msg, p.at, p.state, rows)?;
+    let d = pass::read_pass(call, p.at, p.state, rows)?;
     let q = d.reached;
-    if let OptRefusal::Some(r) = place::place_pass(
-        table.config,
+    let count = p.count + q.count;
+    place::place_pass(
+        call.table.config,
         d.rect,
-        rows,
-        q.count,
-        out,
-        p.count,
-    ) {
-        return Err(r);
-    }
+        &rows[..q.count],
+        &mut out[p.count..count],
+    )?;
     let reached = Reached {
-        count: p.count + q.count,
+        count,
         looked: p.looked + q.looked,
         ..q
     };
@@ -99,29 +96,26 @@ fn end_page(c: Config, more: bool, p: Reached) -> PageDone
 
 // The page from a place on: its records stand first in the slice.
 fn render_page(
-    file: &[u8],
-    table: SignFile,
-    msg: &[u8],
+    call: &Call,
     from: usize,
     start: RenderState,
-    rows: &mut [u16],
-    out: &mut [u16],
+    rows: &mut [Row],
+    out: &mut [Span],
 ) -> Result<PageDone, Refusal>
-    requires { RenderAsked file.now table msg.now rows.old out.old (start_at from start) }
-    ensures { PageRendered file.now table msg.now from start rows.old out.old
-        rows.new out.new result }
+    requires { RenderAsked call.now rows.old out.old (start_at from start) }
+    ensures { PageRendered call.now from start rows.old out.old rows.new out.new result }
 {
-    let c = table.config;
+    let c = call.table.config;
     let mut p = Reached::start(from, start);
     for _ in 0..MAX_TEXT_RECTANGLES {
-        let d = render_pass(file, table, msg, p, rows, out)?;
+        let d = render_pass(call, p, rows, out)?;
         match d.how {
             How::Cut => p = d.reached,
             How::Turn => return Ok(end_page(c, true, d.reached)),
             How::End => return Ok(end_page(c, false, d.reached)),
         }
     }
-    render_pass(file, table, msg, p, rows, out)?;
+    render_pass(call, p, rows, out)?;
     Err(too_many())
 }
 
@@ -153,21 +147,18 @@ impl Pages {
     // An on page.
     fn render_on_page(
         &mut self,
-        file: &[u8],
-        table: SignFile,
-        msg: &[u8],
-        rows: &mut [u16],
-        out: &mut [u16],
+        call: &Call,
+        rows: &mut [Row],
+        out: &mut [Span],
     ) -> Result<PageShown, Refusal>
-        requires { NextAsked file.now table msg.now self.old rows.old out.old }
-        ensures { OnRead file.now table msg.now self.old rows.old out.old
-            self.new rows.new out.new result }
+        requires { NextAsked call.now self.old rows.old out.old }
+        ensures { OnRead call.now self.old rows.old out.old self.new rows.new out.new result }
     {
-        let s = page::scan(msg, self.at, table.config, self.on, self.off);
+        let s = page::scan(call.msg, self.at, call.table.config, self.on, self.off);
         if let OptRefusal::Some(r) = s.fault {
             return Err(r);
         }
-        let d = render_page(file, table, msg, self.at, self.render_state, rows, out)?;
+        let d = render_page(call, self.at, self.render_state, rows, out)?;
         let p = d.reached;
         *self = Pages {
             at: p.at,
@@ -201,19 +192,16 @@ impl Pages {
     // The next answer, if there is one; the records of an on page stand first in the slice.
     pub fn next(
         &mut self,
-        file: &[u8],
-        table: SignFile,
-        msg: &[u8],
-        rows: &mut [u16],
-        out: &mut [u16],
+        call: &Call,
+        rows: &mut [Row],
+        out: &mut [Span],
     ) -> Result<Option<PageShown>, Refusal>
-        requires { NextAsked file.now table msg.now self.old rows.old out.old }
-        ensures { NextRead file.now table msg.now self.old rows.old out.old
-            self.new rows.new out.new result }
+        requires { NextAsked call.now self.old rows.old out.old }
+        ensures { NextRead call.now self.old rows.old out.old self.new rows.new out.new result }
     {
         match self.page_state {
             PageState::On(_) => {
-                let x = self.render_on_page(file, table, msg, rows, out)?;
+                let x = self.render_on_page(call, rows, out)?;
                 Ok(Some(x))
             }
             PageState::Off(_) => Ok(Some(self.render_off_page())),

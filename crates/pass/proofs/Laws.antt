@@ -38,7 +38,7 @@ use Rattle.font.specs.Table.{font_numbered}
 use Rattle.counts.specs.Placing.{sum_of, fonts_in, capitals_in}
 use Rattle.counts.proofs.Laws.{looked_few}
 use Rattle.meter.specs.declared.call.Call.{Call}
-use Rattle.meter.specs.Gauges.{WidthsOf, CodesFit, part_codes, EntryIn}
+use Rattle.meter.specs.Gauges.{WidthsOf, CodesFit, EntryIn}
 use Rattle.pass.specs.declared.How.{How}
 use Rattle.pass.specs.declared.How.TheVariants.{Cut as ByCut, Turn as ByTurn, End as ByEnd}
 use Rattle.pass.specs.declared.Held.{Held}
@@ -284,7 +284,7 @@ module _ {call : Call} {from : ℕ} {first : RenderState} {rows₀ rows : List R
       narrow k = spoken_narrow c.long_times at bytes x spoke.2.spoken k
 
       pass_reads : EntryIn call x
-      unfolding part_codes bytes
+      unfolding bytes
       pass_reads =
           record {
             inside = omega (arith, starts, shorter, past, more);

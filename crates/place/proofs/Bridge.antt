@@ -81,7 +81,7 @@ module _ (m : Meter) (p : RowTells m) (c : Config) (q : Rect) (es : List Entry) 
 
   group_part : (e : Entry)
       → (let o : Sums = sums (row_of m e) none_yet (map (row_of m) es) in
-      fault_at (row_of m e) (fault_of o.fault o.detail) ≡ place.fault_at board q es e (first_fault m.fault (select (same e) es)))
+      fault_at (row_of m e) (fault_of o.fault) ≡ place.fault_at board q es e (first_fault m.fault (select (same e) es)))
   group_part e = ap (fault_at (row_of m e)) (sums_fault m p es e) ∙ fault_at_law e (first_fault m.fault (select (same e) es))
 
   font_part : (e : Entry) → fault_at (row_of m e) (font_fault_from e.state.just_page (map (row_of m) es))

@@ -1,30 +1,31 @@
 -- What the code of a pass answers, way by way.
-use Prim.Native.Nat.{ℕ, zero, suc, ◌+◌, ◌-◌, ◌*◌, ◌/◌, ◌≤◌, ◌<◌}
+use Prim.Native.Nat.{ℕ, zero, suc, ◌+◌, ◌-◌, ◌≤◌, ◌<◌}
 use mathlib.Core.Path.{◌≡◌, refl, sym, ◌∙◌, ap, subst}
 use mathlib.Core.Bool.{Bool, true, false, not}
 use mathlib.Core.Option.{Option, none, some}
-use mathlib.Core.List.{List, [], ◌∷◌, ◌++◌, map, append_assoc, append-nil}
-use native.Mathlib.Nat.{sub-zero}
+use mathlib.Core.List.{List, [], ◌∷◌, ◌++◌, map}
 use native.Mathlib.Omega.{arith}
-use lib.Dec.{leb, ltb, eqb}
-use lib.ListN.{length}
-use borrow.Author.Tests.{lt-ltb, le-ltb, le-leb, lt-leb, ltb-true, ltb-false, eq-eqb, ne_eqb, eqb-true, eqb-false}
+use lib.Dec.{leb, ltb}
+use lib.ListN.{length, set, take, drop}
+use Rattle.std.specs.Prelude.{Result, Ok, Err, Some, None}
+use Rattle.std.specs.Prelude.{Option as Opt}
+use Rattle.std.specs.Option.{option_or}
+use borrow.Rule.Slice.PartMut.{put_mid}
+use Rattle.std.proofs.lemmas.Slice.{take-put_mid}
+use Rattle.std.proofs.lemmas.List.{length-map, length-drop, at_drop_more, at_drop_all, take_more, take_more_set, take_all, get_or-take, length-take-le, length-set, map-append, take-append-drop, nil_from_length}
+use borrow.Author.Tests.{le-ltb, le-leb, lt-leb, ltb-true}
 use Rattle.base.specs.Pick.{pick}
 use Rattle.refusal.specs.declared.Refusal.{Refusal}
 use Rattle.records.specs.declared.Config.{Config}
 use Rattle.layout.specs.declared.Rect.{Rect}
 use Rattle.layout.specs.declared.Span.{Span}
 use Rattle.refusal.specs.Refusals.{refusal}
-use Rattle.layout.specs.Read.{unit}
-use Rattle.layout.specs.Placing.{trunc, or_else, unless, first_fault, place_x}
-use Rattle.refusal.specs.declared.OptRefusal.{OptRefusal}
-use Rattle.refusal.specs.declared.OptRefusal.TheVariants.{Some, None}
-use Rattle.page.specs.Scan.{fault_is}
+use Rattle.layout.specs.Placing.{or_else, unless, first_fault, place_x}
 use Rattle.rows.specs.declared.Fault.{Fault}
 use Rattle.rows.specs.declared.Row.{Row}
-use Rattle.rows.specs.Rows.{cells, RowRoom, row_at, rows_of, spans_of, SpanPut}
+use Rattle.rows.specs.Rows.{blank_row, row_at, rows_of, spans_of, mark_at}
 use Rattle.rows.specs.Measured.{fault_of}
-use Rattle.rows.proofs.Laws.{cells_next, cells_done, spans_put, cell_ahead}
+use Rattle.rows.proofs.Laws.{span_stays}
 use Rattle.sums.specs.declared.Sums.{Sums}
 use Rattle.sums.specs.Sums.{same_row, joined, advanced, sums, none_yet}
 use Rattle.sums.specs.Chain.{ChainedTo}
@@ -32,123 +33,71 @@ use Rattle.sums.proofs.Groups.{same_self}
 use Rattle.lines.specs.declared.PageLines.{PageLines}
 use Rattle.lines.specs.declared.Heights.{Heights}
 use Rattle.lines.specs.Lines.{PageHeights, heights_in}
-use Rattle.lines.proofs.Offsets.{HeightsOf, heights_are}
+use Rattle.lines.proofs.Feet.{HeightsOf, heights_are}
 use Rattle.place.specs.declared.Across.{Across}
-use Rattle.place.specs.declared.Placed.{Placed}
-use Rattle.place.specs.declared.Placed.TheVariants.{At, Refused}
+use Rattle.place.specs.declared.shared.Pass.{Pass}
 use Rattle.place.specs.Placed.{goes_back_from, back_rows, stands_at, record_by, refusal_of, fault_at, base_with, record_with, fault_with}
-use Rattle.place.specs.Placed.{placed_by, placed_with, across_fault, across_at, Crossed, SpanAsked, SpanPlaced, above_at, below_at}
+use Rattle.place.specs.Placed.{placed_by, placed_with, across_fault, fault_end, Crossed, SpanAsked, SpanPlaced, above_at, below_at}
 use Rattle.place.specs.Placed.{record_at, span_fault_at, rows_fault, rows_records, Placeable, LinesMade, RowByRow, PassPlaced}
-use Rattle.place.specs.Groups.{mark_at, Marked, Ready, PlacedAcross, DownAsked, PlacedDown, stopped_at}
+use Rattle.place.specs.Groups.{sums_at, end_at, Marked, Ready, PlacedAcross, DownAsked, PlacedDown}
 use Rattle.place.proofs.Groups.{marked_as}
 
--- ---- `goes_back`
+-- ---- `check_justification`: the rows from i on, after the row r
 
-module _ (j l k : ℕ) (e : Row) where
-  pub page_back : e.just_page < j → true ≡ goes_back_from j l k e
-  page_back h = rw (lt-ltb e.just_page j h)
+abbrev pub back_after : Row → List Row → Option Refusal
+back_after r es = back_rows r.just_page r.line r.just_line es
 
-  pub page_on_law : j ≤ e.just_page → (e.just_page ≡ j → ⊥) → false ≡ goes_back_from j l k e
-  page_on_law h n = rw (le-ltb e.just_page j h, ne_eqb e.just_page j n)
+stops : (t : Bool) (f : Refusal) (o : Option Refusal) → t ≡ true → or_else (unless (not t) f) o ≡ some f
+unfolding or_else unless
+stops t f o p = rw p
 
-  pub line_on : j ≤ e.just_page → e.just_page ≡ j → (e.line ≡ l → ⊥) → false ≡ goes_back_from j l k e
-  line_on h p n = rw (le-ltb e.just_page j h, eq-eqb e.just_page j p, ne_eqb e.line l n)
+goes : (t : Bool) (f : Refusal) (o : Option Refusal) → t ≡ false → or_else (unless (not t) f) o ≡ o
+unfolding or_else unless
+goes t f o p = rw p
 
-  pub line_back : j ≤ e.just_page → e.just_page ≡ j → e.line ≡ l → ltb e.just_line k ≡ goes_back_from j l k e
-  line_back h p q = rw (le-ltb e.just_page j h, eq-eqb e.just_page j p, eq-eqb e.line l q)
+pub record Checking (rows : List Row) (r : Row) (i : ℕ) : Type 0 where
+  pub rest : back_after r (drop i rows) ≡ back_rows 0 0 0 rows
 
-pub ruleset back_ways = (page_back, page_on_law, line_on, line_back)
+-- b is what `goes_back` answered
+module _ {rows : List Row} {r : Row} {i : ℕ} (z : Checking rows r i) (h : i < length rows) {b : Bool}
+    (f : b ≡ goes_back_from r.just_page r.line r.just_line (row_at rows i)) where
+  next : back_after r (row_at rows i ∷ drop (i + 1) rows) ≡ back_rows 0 0 0 rows
+  next = sym (at_drop_more (back_after r) rows i blank_row h) ∙ z.rest
 
--- ---- `check_justification`: the rows from i on, after a row with page justification j, line l and line justification k
+  pub check_stop : b ≡ true → some (refusal 9 (row_at rows i).start (row_at rows i).len 0) ≡ back_rows 0 0 0 rows
+  check_stop p =
+      sym (stops (goes_back_from r.just_page r.line r.just_line (row_at rows i)) _ (back_after (row_at rows i) (drop (i + 1) rows)) (sym f ∙ p)) ∙ next
 
-pub record Checking (rows : List ℕ) (n j l k i : ℕ) : Type 0 where
-  pub few : n ≤ 2048
-  pub rowed : RowRoom n rows
-  pub rest : back_rows j l k (cells (row_at rows) i (n - i)) ≡ back_rows 0 0 0 (rows_of rows n)
-
-pub check_start : {rows : List ℕ} {n : ℕ} → (n ≤ 2048) × RowRoom n rows → Checking rows n 0 0 0 0
-unfolding rows_of
-check_start {n = n} h = record { few = h.0; rowed = h.1; rest = rw (sub-zero n) }
-
-module _ {rows : List ℕ} {n j l k i : ℕ} (z : Checking rows n j l k i) where
-  pub check_end : n ≤ i → none ≡ back_rows 0 0 0 (rows_of rows n)
-  check_end h = rw (cells_done (row_at rows) i n h) at z.rest
-
-  -- e is the row read, b what `goes_back` answered
-  module _ (h : i < n) {e : Row} (q : e ≡ row_at rows i) {b : Bool} (f : b ≡ goes_back_from j l k e) where
-    rest : List Row
-    rest = cells (row_at rows) (i + 1) (n - (i + 1))
-
-    next : back_rows j l k (e ∷ rest) ≡ back_rows 0 0 0 (rows_of rows n)
-    unfolding rest
-    next = ap (λ (r : Row). back_rows j l k (r ∷ rest)) q ∙ ap (back_rows j l k) (sym (cells_next (row_at rows) i n h)) ∙ z.rest
-
-    stops : (t : Bool) (o : Option Refusal) → t ≡ true → or_else (unless (not t) (refusal 9 e.start e.len 0)) o ≡ some (refusal 9 e.start e.len 0)
-    unfolding or_else unless
-    stops t o p = rw p
-
-    goes : (t : Bool) (o : Option Refusal) → t ≡ false → or_else (unless (not t) (refusal 9 e.start e.len 0)) o ≡ o
-    unfolding or_else unless
-    goes t o p = rw p
-
-    pub check_stop : b ≡ true → some (refusal 9 e.start e.len 0) ≡ back_rows 0 0 0 (rows_of rows n)
-    check_stop p = sym (stops (goes_back_from j l k e) (back_rows e.just_page e.line e.just_line rest) (sym f ∙ p)) ∙ next
-
-    pub check_on : b ≡ false → Checking rows n e.just_page e.line e.just_line (i + 1)
-    unfolding rest
-    check_on p =
-        record {
-          few = z.few;
-          rowed = z.rowed;
-          rest = sym (goes (goes_back_from j l k e) (back_rows e.just_page e.line e.just_line rest) (sym f ∙ p)) ∙ next;
-        }
-
--- ---- `trunc`, `stand`
-
-pub trunc_is : (n x k : ℕ) → k ≡ unit n → x / k * k ≡ trunc n x
-trunc_is n x k e = ap (λ (u : ℕ). x / u * u) e
-
-module _ (j u from size a b : ℕ) where
-  pub stand_start : j ≡ 2 → from + a ≡ stands_at j u from size a b
-  stand_start e = rw (eq-eqb j 2 e)
-
-  pub stand_middle : (j ≡ 2 → ⊥) → j ≡ 3 → {r : ℕ} → r ≡ trunc u (from + (size - a - b) / 2 + a) → r ≡ stands_at j u from size a b
-  stand_middle n e d = rw (ne_eqb j 2 n, eq-eqb j 3 e) d
-
-  pub stand_end : (j ≡ 2 → ⊥) → (j ≡ 3 → ⊥) → from + size - b ≡ stands_at j u from size a b
-  stand_end n m = rw (ne_eqb j 2 n, ne_eqb j 3 m)
-
-pub ruleset stand_ways = (stand_start, stand_middle, stand_end)
+  pub check_on : b ≡ false → Checking rows (row_at rows i) (i + 1)
+  check_on p =
+      record {
+        rest =
+            sym (goes (goes_back_from r.just_page r.line r.just_line (row_at rows i)) _ (back_after (row_at rows i) (drop (i + 1) rows)) (sym f ∙ p)) ∙ next;
+      }
 
 -- ---- `place_span`
 
 -- the first of five
 module _ (a b c d e : Option Refusal) (s : Span) (f : Refusal) where
-  answer : Placed
+  answer : Result Span Refusal
   answer = placed_by (or_else a (or_else b (or_else c (or_else d e)))) s
 
-  way3 : a ≡ none → b ≡ none → c ≡ some f → Refused f ≡ answer
+  way3 : a ≡ none → b ≡ none → c ≡ some f → Err f ≡ answer
   unfolding answer or_else
   way3 h i j = rw (h, i, j)
 
-  way4 : a ≡ none → b ≡ none → c ≡ none → d ≡ some f → Refused f ≡ answer
+  way4 : a ≡ none → b ≡ none → c ≡ none → d ≡ some f → Err f ≡ answer
   unfolding answer or_else
   way4 h i j k = rw (h, i, j, k)
 
-  way5 : a ≡ none → b ≡ none → c ≡ none → d ≡ none → e ≡ some f → Refused f ≡ answer
+  way5 : a ≡ none → b ≡ none → c ≡ none → d ≡ none → e ≡ some f → Err f ≡ answer
   unfolding answer or_else
   way5 h i j k l = rw (h, i, j, k, l)
 
 way6 : (a b c d e : Option Refusal) (s : Span) → a ≡ none → b ≡ none → c ≡ none → d ≡ none → e ≡ none
-    → At s ≡ placed_by (or_else a (or_else b (or_else c (or_else d e)))) s
+    → Ok s ≡ placed_by (or_else a (or_else b (or_else c (or_else d e)))) s
 unfolding or_else
 way6 a b c d e s h i j k l = rw (h, i, j, k, l)
-
-fault_none : (r : Row) (n d : ℕ) → n ≡ 0 → fault_at r (fault_of n d) ≡ none
-fault_none r n d e = rw (eq-eqb n 0 e)
-
-fault_some : (r : Row) (n d : ℕ) → (n ≡ 0 → ⊥) → fault_at r (fault_of n d) ≡ some (refusal_of r n d)
-fault_some r n d h = rw (ne_eqb n 0 h)
 
 fits : (x y : ℕ) (f : Refusal) → x ≤ y → unless (leb x y) f ≡ none
 unfolding unless
@@ -168,76 +117,64 @@ module _ (c : Config) (q : Rect) (r : Row) (o : Sums) where
   unfolding or_else
   second a b d f h k = rw (h, k)
 
-  pub across_stops : (f : Fault) → f ≡ across_fault q o → (f.number ≡ 0 → ⊥) → (a b : ℕ) (d : Option (ℕ × ℕ))
-      → fault_with c q r o a b d ≡ some (refusal_of r f.number f.detail)
+  pub across_stops : (f : Refusal) → fault_end r (across_fault q o) ≡ Err f → (a b : ℕ) (d : Option (ℕ × ℕ)) → fault_with c q r o a b d ≡ some f
   unfolding fault_with
-  across_stops f e h a b d = step (eqb o.fault 0) (ltb q.width (o.before + o.after)) refl refl e
+  across_stops f h a b d = step o.fault (ltb q.width (o.before + o.after)) refl h
     where
-      step : (t u : Bool) → eqb o.fault 0 ≡ t → ltb q.width (o.before + o.after) ≡ u
-          → f ≡ pick t (pick u (record { number = 13; detail = 0 }) (record { number = 0; detail = 0 })) (record { number = o.fault; detail = o.detail })
-          → or_else (fault_at r (fault_of o.fault o.detail)) (or_else (unless (leb (o.before + o.after) q.width) (refusal_of r 13 0))
+      step : (m : Opt Fault) (u : Bool) → ltb q.width (o.before + o.after) ≡ u
+          → fault_end r (option_or m (pick u (Some (record { number = 13; detail = 0 })) None)) ≡ Err f
+          → or_else (fault_at r (fault_of m)) (or_else (unless (leb (o.before + o.after) q.width) (refusal_of r 13 0))
           (or_else (fault_at r d) (or_else (unless (leb (a + b) q.height) (refusal_of r 13 0))
           (unless (leb r.height (base_with c q r o a b)) (refusal_of r 14 0)))))
-          ≡ some (refusal_of r f.number f.detail)
-      step true true k l g =
-          rw g
-          (second _ _ _ (refusal_of r 13 0) (fault_none r o.fault o.detail (eqb-true o.fault 0 k))
-          (exceeds (o.before + o.after) q.width (refusal_of r 13 0) (ltb-true q.width (o.before + o.after) l)))
-      step true false k l g = absurd (h (ap (λ (x : Fault). x.number) g))
-      step false u k l g = rw g (first_of_all _ _ (refusal_of r o.fault o.detail) (fault_some r o.fault o.detail (eqb-false o.fault 0 k)))
+          ≡ some f
+      step None true l g =
+          let e : refusal_of r 13 0 ≡ f = cc in
+          rw (← e) (second _ _ _ (refusal_of r 13 0) refl (exceeds (o.before + o.after) q.width (refusal_of r 13 0) (ltb-true q.width (o.before + o.after) l)))
+      step None false l g = cc
+      step (Some x) u l g = let e : refusal_of r x.number x.detail ≡ f = cc in first_of_all _ _ f (ap (λ (y : Refusal). some y) e)
 
 -- v are the heights of the row's line
-module _ (c : Config) (q : Rect) (r : Row) (o : Sums) (v : Heights) (p : Placed) where
-  module _ (g : o.fault ≡ 0) where
-    module _ (w : o.before + o.after ≤ q.width) where
-      a_none : fault_at r (fault_of o.fault o.detail) ≡ none
-      a_none = fault_none r o.fault o.detail g
+module _ (c : Config) (q : Rect) (r : Row) (o : Sums) (v : Heights) {x : ℕ} (k : Crossed c q r o x) where
+  a_none : fault_at r (fault_of o.fault) ≡ none
+  a_none = rw k.fine
 
-      b_none : unless (leb (o.before + o.after) q.width) (refusal_of r 13 0) ≡ none
-      b_none = fits (o.before + o.after) q.width (refusal_of r 13 0) w
+  b_none : unless (leb (o.before + o.after) q.width) (refusal_of r 13 0) ≡ none
+  b_none = fits (o.before + o.after) q.width (refusal_of r 13 0) k.wide
 
-      pub font_faulty : (v.fault ≡ 0 → ⊥) → p ≡ Refused (refusal_of r v.fault v.detail) → p ≡ placed_with c q r o v
-      unfolding placed_with fault_with answer
-      font_faulty h e = e ∙ way3 _ _ _ _ _ _ _ a_none b_none (fault_some r v.fault v.detail h)
+  pub font_faulty : {f : Fault} → v.fault ≡ Some f → Err (refusal_of r f.number f.detail) ≡ placed_with c q r o v
+  unfolding placed_with fault_with answer
+  font_faulty h = way3 _ _ _ _ _ _ _ a_none b_none (rw h)
 
-      module _ (z : v.fault ≡ 0) where
-        c_none : fault_at r (fault_of v.fault v.detail) ≡ none
-        c_none = fault_none r v.fault v.detail z
+  module _ (z : v.fault ≡ None) where
+    c_none : fault_at r (fault_of v.fault) ≡ none
+    c_none = rw z
 
-        pub too_high : q.height < v.above + v.below → p ≡ Refused (refusal_of r 13 0) → p ≡ placed_with c q r o v
-        unfolding placed_with fault_with answer
-        too_high h e = e ∙ way4 _ _ _ _ _ _ _ a_none b_none c_none (exceeds (v.above + v.below) q.height (refusal_of r 13 0) h)
+    pub too_high : q.height < v.above + v.below → Err (refusal_of r 13 0) ≡ placed_with c q r o v
+    unfolding placed_with fault_with answer
+    too_high h = way4 _ _ _ _ _ _ _ a_none b_none c_none (exceeds (v.above + v.below) q.height (refusal_of r 13 0) h)
 
-        -- t is the baseline
-        module _ (y : v.above + v.below ≤ q.height) {t : ℕ}
-            (et : t ≡ stands_at r.just_page c.char_height q.top q.height v.above v.below) where
-          d_none : unless (leb (v.above + v.below) q.height) (refusal_of r 13 0) ≡ none
-          d_none = fits (v.above + v.below) q.height (refusal_of r 13 0) y
+    -- t is the baseline
+    module _ (y : v.above + v.below ≤ q.height) {t : ℕ} (et : t ≡ stands_at r.just_page c.char_height q.top q.height v.above v.below) where
+      d_none : unless (leb (v.above + v.below) q.height) (refusal_of r 13 0) ≡ none
+      d_none = fits (v.above + v.below) q.height (refusal_of r 13 0) y
 
-          base : ℕ
-          base = base_with c q r o v.above v.below
+      base : ℕ
+      base = base_with c q r o v.above v.below
 
-          base_is : t ≡ base
-          unfolding base base_with
-          base_is = et
+      base_is : t ≡ base
+      unfolding base base_with
+      base_is = et
 
-          pub too_low : t < r.height → p ≡ Refused (refusal_of r 14 0) → p ≡ placed_with c q r o v
-          unfolding placed_with fault_with answer base
-          too_low h e = e ∙ way5 _ _ _ _ _ _ _ a_none b_none c_none d_none (exceeds r.height base (refusal_of r 14 0) (omega (arith, base_is)))
+      pub too_low : t < r.height → Err (refusal_of r 14 0) ≡ placed_with c q r o v
+      unfolding placed_with fault_with answer base
+      too_low h = way5 _ _ _ _ _ _ _ a_none b_none c_none d_none (exceeds r.height base (refusal_of r 14 0) (omega (arith, base_is)))
 
-          pub placed : r.height ≤ t → {x : ℕ} → x ≡ across_at c q r o.before o.after
-              → {s : Span} → s ≡ record_by q r x (t - r.height) → p ≡ At s → p ≡ placed_with c q r o v
-          unfolding placed_with fault_with record_with answer base
-          placed h ex es ep =
-              ep ∙ ap At es ∙ ap (λ (w : ℕ). At (record_by q r w (t - r.height))) ex
-              ∙ ap (λ (w : ℕ). At (record_by q r (place_x r.just_line c.char_width q o.before o.after) (w - r.height))) base_is
-              ∙ way6 _ _ _ _ _ _ a_none b_none c_none d_none (fits r.height base (refusal_of r 14 0) (omega (arith, base_is)))
-
--- ---- `lines_for`
-
-pub lines_kept : {ch : ℕ} {rows : List ℕ} {n want : ℕ} {table : List ℕ} {page : PageLines} → LinesMade ch rows n table page → page.just ≡ want
-    → PageHeights ch rows n want table page
-lines_kept {ch} {rows} {n} {want} {table} {page} m e = subst (λ (j : ℕ). PageHeights ch rows n j table page) e m.lines
+      pub placed : r.height ≤ t → Ok (record_by q r x (t - r.height)) ≡ placed_with c q r o v
+      unfolding placed_with fault_with record_with answer base
+      placed h =
+          ap (λ (w : ℕ). Ok (record_by q r w (t - r.height))) k.is
+          ∙ ap (λ (w : ℕ). Ok (record_by q r (place_x r.just_line c.char_width q o.before o.after) (w - r.height))) base_is
+          ∙ way6 _ _ _ _ _ _ a_none b_none c_none d_none (fits r.height base (refusal_of r 14 0) (omega (arith, base_is)))
 
 -- ---- a row's width is part of what stands from it on
 
@@ -257,179 +194,144 @@ own_width : (r : Row) (o : Sums) → r.width ≤ (advanced r o r).after
 unfolding advanced
 own_width r o = rw (same_self r) (rw (le-ltb r.span r.span (omega arith)) (omega arith))
 
-width_in_law : (l : List ℕ) (r : Row) (o : Sums) (i d k : ℕ) → r ≡ row_at l (i + d) → d < k → r.width ≤ (sums r o (cells (row_at l) i k)).after
-width_in_law l r o i d zero e h = absurd (omega arith)
-width_in_law l r o i zero (suc k) e h =
-    let q : row_at l i ≡ r = ap (row_at l) (let z : i ≡ i + 0 = omega arith in z) ∙ sym e in
-    rw q (omega (arith, own_width r o, after_keeps r (advanced r o r) (cells (row_at l) (suc i) k)))
-width_in_law l r o i (suc d) (suc k) e h =
-    let z : i + suc d ≡ suc i + d = omega arith in
-    width_in_law l r (advanced r o (row_at l i)) (suc i) d k (e ∙ ap (row_at l) z) (omega arith)
-
-pub width_part : (l : List ℕ) (n i : ℕ) (r : Row) (o : Sums) → i < n → r ≡ row_at l i → o ≡ sums r none_yet (rows_of l n) → r.width ≤ o.after
-unfolding rows_of
-width_part l n i r o h e f = rw f (width_in_law l r none_yet 0 i n (e ∙ ap (row_at l) (let z : i ≡ 0 + i = omega arith in z)) h)
+pub width_part : (rs : List Row) (i : ℕ) (o : Sums) → i < length rs → (row_at rs i).width ≤ (sums (row_at rs i) o rs).after
+width_part [] i o h = absurd (omega arith)
+width_part (e ∷ es) zero o h = omega (arith, own_width e o, after_keeps e (advanced e o e) es)
+width_part (e ∷ es) (suc i) o h = width_part es i (advanced (row_at es i) o e) (omega arith)
 
 -- ---- `place_down`
-
-refused_is : (f : Refusal) (w : Option Refusal) (s : Span) → Refused f ≡ placed_by w s → some f ≡ w
-refused_is f none s e = absurd (let z : ◌≡◌ {A = ℕ} 0 1 = cc in omega arith)
-refused_is f (some g) s e = cc
-
-at_is : (a : Span) (w : Option Refusal) (s : Span) → At a ≡ placed_by w s → (w ≡ none) × (a ≡ s)
-at_is a none s e = (refl, cc)
-at_is a (some g) s e = absurd (let z : ◌≡◌ {A = ℕ} 0 1 = cc in omega arith)
-
-pub not_none : {A : Type 0} (f : Refusal) → Some f ≡ None → A
-not_none f e = absurd (let z : ◌≡◌ {A = ℕ} 0 1 = cc in omega arith)
 
 none_first : (a b : Option Refusal) → a ≡ none → or_else a b ≡ b
 unfolding or_else
 none_first a b e = rw e
 
-some_first : (f : Refusal) (a b : Option Refusal) → some f ≡ a → some f ≡ or_else a b
+some_first : (f : Refusal) (a b : Option Refusal) → a ≡ some f → or_else a b ≡ some f
 unfolding or_else
-some_first f a b e = rw (← e)
+some_first f a b e = rw e
 
--- the first i of m rows are placed, the others placed across, and the lines of page stand in the table
-pub record Placing (c : Config) (q : Rect) (rows : List ℕ) (n : ℕ) (out₀ : List ℕ) (at m : ℕ) (out table : List ℕ) (page : PageLines) (i : ℕ) : Type 0 where
-  pub asked : Placeable q rows n out at
-  pub few : m ≤ n
-  pub within : i ≤ m
-  pub lines : PageHeights c.char_height rows n page.just table page
-  pub faults : first_fault (span_fault_at c q (rows_of rows n)) (cells (row_at rows) i (m - i))
-      ≡ first_fault (span_fault_at c q (rows_of rows n)) (cells (row_at rows) 0 m)
-  pub records : spans_of out (at + i) ++ map (record_at c q (rows_of rows n)) (cells (row_at rows) i (m - i))
-      ≡ spans_of out₀ at ++ map (record_at c q (rows_of rows n)) (cells (row_at rows) 0 m)
-  pub marked : (j : ℕ) → i ≤ j → j < m → Marked c q rows n out at j
-  pub room : length out ≡ length out₀
+err_is : (f : Refusal) (w : Option Refusal) (s : Span) → Err f ≡ placed_by w s → w ≡ some f
+err_is f none s e = cc
+err_is f (some g) s e = cc
+
+ok_is : (a : Span) (w : Option Refusal) (s : Span) → Ok a ≡ placed_by w s → (w ≡ none) × (a ≡ s)
+ok_is a none s e = (refl, cc)
+ok_is a (some g) s e = cc
+
+pub below_m : (m : ℕ) (rs : List Row) → m ≤ length rs → {i : ℕ} → i < length (take m rs) → i < m
+below_m m rs h k = omega (arith, length-take-le m rs h)
+
+-- the first i of m rows are placed, the others placed across
+pub record Placing (p : Pass) (m : ℕ) (out : List Span) (page : PageLines) (i : ℕ) : Type 0 where
+  pub few : m ≤ length p.rows.now
+  pub room : length p.rows.now ≡ length out
+  pub lines : LinesMade p page
+  pub faults : first_fault (span_fault_at p.config p.rect p.rows.now) (drop i (take m p.rows.now))
+      ≡ first_fault (span_fault_at p.config p.rect p.rows.now) (take m p.rows.now)
+  pub records : take i out ≡ map (record_at p.config p.rect p.rows.now) (take i p.rows.now)
+  pub marked : (j : ℕ) → i ≤ j → j < m → Marked p out j
 
 -- the lines kept are those of their own justification
-own_lines : {ch : ℕ} {rows : List ℕ} {n just : ℕ} {table : List ℕ} {page : PageLines} → PageHeights ch rows n just table page
-    → PageHeights ch rows n page.just table page
-own_lines {ch} {rows} {n} {just} {table} {page} h = subst (λ (j : ℕ). PageHeights ch rows n j table page) (sym h.page) h
+own_lines : {ch : ℕ} {rows : List Row} {just : ℕ} {page : PageLines} → PageHeights ch rows just page → PageHeights ch rows page.just page
+own_lines {ch} {rows} {just} {page} h = subst (λ (j : ℕ). PageHeights ch rows j page) (sym h.page) h
 
-pub placing_start : {c : Config} {q : Rect} {rows : List ℕ} {n : ℕ} {out : List ℕ} {at m just : ℕ} {table : List ℕ} {page : PageLines}
-    → DownAsked c q rows n out at m → PageHeights c.char_height rows n just table page → Placing c q rows n out at m out table page 0
-placing_start {c} {q} {rows} {n} {out} {at} {m} a h =
-    record {
-      asked = a.asked;
-      few = a.few;
-      within = omega arith;
-      lines = own_lines h;
-      faults = ap (λ (k : ℕ). first_fault (span_fault_at c q (rows_of rows n)) (cells (row_at rows) 0 k)) (sub-zero m);
-      records = rw (sub-zero m, (let e : at + 0 ≡ at = omega arith in e));
-      marked = λ j p k. a.marked j k;
-      room = refl;
-    }
+pub placing_start : {p : Pass} {m : ℕ} {out : List Span} {just : ℕ} {page : PageLines} → DownAsked p out m
+    → PageHeights p.config.char_height p.rows.now just page → Placing p m out page 0
+placing_start a h =
+    record { few = a.few; room = a.room; lines = own_lines h; faults = refl; records = refl; marked = λ j q k. a.marked j k }
 
-module _ {c : Config} {q : Rect} {rows : List ℕ} {n : ℕ} {out₀ : List ℕ} {at m : ℕ} {out table : List ℕ} {page : PageLines} {i : ℕ}
-    (z : Placing c q rows n out₀ at m out table page i) where
-  pub lines_made : LinesMade c.char_height rows n table page
-  lines_made = record { few = omega (arith, z.asked.few); rowed = z.asked.rowed; lines = z.lines }
-
-  pub placing_end : m ≤ i → PlacedDown c q rows n out₀ at m out None
-  placing_end h =
-      let x : at + m ≡ at + i = omega (arith, z.within) in
+module _ {p : Pass} {m : ℕ} {out : List Span} {page : PageLines} {i : ℕ} (z : Placing p m out page i) where
+  pub placing_end : i ≡ m → PlacedDown p m out (Ok tt)
+  placing_end e =
+      let f : Row → Option Refusal = span_fault_at p.config p.rect p.rows.now in
       record {
-        fault = rw (cells_done (row_at rows) i m h) at z.faults;
-        written = λ _.
-            ap (spans_of out) x ∙ sym (append-nil (spans_of out (at + i)))
-            ∙ ap (λ (l : List Row). spans_of out (at + i) ++ map (record_at c q (rows_of rows n)) l) (sym (cells_done (row_at rows) i m h)) ∙ z.records;
+        fault = sym (at_drop_all (first_fault f) (take m p.rows.now) i (omega (arith, length-take-le m p.rows.now z.few))) ∙ z.faults;
+        written = λ _. rw e at z.records;
         room = z.room;
       }
 
-  module _ (more : i < m) {w : ℕ} (ew : w ≡ mark_at out at i) where
-    pub mark_some : 0 < w
-    mark_some = rw ew (z.marked i (omega arith) more).some
+  module _ (more : i < m) where
+    pub mark_some : 0 < mark_at out i
+    mark_some = (z.marked i (omega arith) more).some
 
-    -- r is the row read, w its mark and v its heights; the lines of page' are its own
-    module _ {r : Row} (e : r ≡ row_at rows i) {table' : List ℕ} {page' : PageLines} (h : PageHeights c.char_height rows n r.just_page table' page')
-        {v : Heights} (ev : v ≡ heights_in page' table' r.line) where
-      tall : HeightsOf c.char_height rows n r.just_page r.line v
-      tall = heights_are h r.line ev
+    -- r is the row, v its heights; the lines of page' are its own
+    module _ {r : Row} (er : r ≡ row_at p.rows.now i) {page' : PageLines} (h : PageHeights p.config.char_height p.rows.now r.just_page page')
+        (fits : r.line < 256) {v : Heights} (ev : v ≡ heights_in page' r.line) where
+      tall : HeightsOf p.config.char_height p.rows.now r.just_page r.line v
+      tall = heights_are h r.line fits ev
 
       own : Sums
-      own = sums r none_yet (rows_of rows n)
+      own = sums r none_yet p.rows.now
 
-      crossed : Crossed c q r own (w - 1)
+      crossed : Crossed p.config p.rect r own (mark_at out i - 1)
       unfolding own
-      crossed = rw (ew, e) (z.marked i (omega arith) more).is
+      crossed = rw er (z.marked i (omega arith) more).is
 
-      pub span_asks : SpanAsked q r v
+      pub span_asks : SpanAsked p r v
       unfolding own
       span_asks =
-          record {
-            across = z.asked.across;
-            down = z.asked.down;
-            part = omega (arith, width_part rows n i r own (omega (arith, z.few)) e refl, crossed.wide);
-            high = tall.small;
-          }
+          let w : r.width ≤ (sums r none_yet p.rows.now).after = rw er (width_part p.rows.now i none_yet (omega (arith, z.few))) in
+          record { part = omega (arith, w, crossed.wide); high = tall.small }
 
-      ahead : cells (row_at rows) i (m - i) ≡ r ∷ cells (row_at rows) (i + 1) (m - (i + 1))
-      ahead = cells_next (row_at rows) i m more ∙ ap (λ (x : Row). x ∷ cells (row_at rows) (i + 1) (m - (i + 1))) (sym e)
+      -- w is its mark, a the answer of `place_span`
+      module _ {w : ℕ} (ew : w ≡ mark_at out i) {a : Result Span Refusal} (ea : SpanPlaced p r (w - 1) v a) where
+        fault : Option Refusal
+        fault = span_fault_at p.config p.rect p.rows.now r
 
-      -- p is the answer of `place_span`
-      module _ {p : Placed} (ep : SpanPlaced c q r (w - 1) v p) where
-        answered : p ≡ placed_by (span_fault_at c q (rows_of rows n) r) (record_at c q (rows_of rows n) r)
-        unfolding placed_with span_fault_at record_at above_at below_at own
-        answered = rw (← tall.over, ← tall.under, ← tall.font) (ep own crossed)
+        answered : a ≡ placed_by fault (record_at p.config p.rect p.rows.now r)
+        unfolding fault placed_with span_fault_at record_at above_at below_at own
+        answered = rw (← tall.over, ← tall.under, ← tall.font) (ea own (rw ew crossed))
 
         later : Option Refusal
-        later = first_fault (span_fault_at c q (rows_of rows n)) (cells (row_at rows) (i + 1) (m - (i + 1)))
+        later = first_fault (span_fault_at p.config p.rect p.rows.now) (drop (i + 1) (take m p.rows.now))
 
-        here : first_fault (span_fault_at c q (rows_of rows n)) (cells (row_at rows) i (m - i)) ≡ or_else (span_fault_at c q (rows_of rows n) r) later
-        unfolding later
-        here = ap (first_fault (span_fault_at c q (rows_of rows n))) ahead
+        here : or_else fault later ≡ first_fault (span_fault_at p.config p.rect p.rows.now) (take m p.rows.now)
+        unfolding fault later
+        here =
+            ap (λ (x : Row). first_fault (span_fault_at p.config p.rect p.rows.now) (x ∷ drop (i + 1) (take m p.rows.now)))
+            (er ∙ sym (get_or-take m p.rows.now i blank_row more))
+            ∙ sym (at_drop_more (first_fault (span_fault_at p.config p.rect p.rows.now)) (take m p.rows.now) i blank_row
+            (omega (arith, length-take-le m p.rows.now z.few)))
+            ∙ z.faults
 
-        pub placing_stop : {f : Refusal} → p ≡ Refused f → PlacedDown c q rows n out₀ at m out (Some f)
+        pub placing_stop : {f : Refusal} → a ≡ Err f → PlacedDown p m out (Err f)
         placing_stop {f} k =
             record {
-              fault =
-                  some_first f (span_fault_at c q (rows_of rows n) r) later (refused_is f _ (record_at c q (rows_of rows n) r) (sym k ∙ answered))
-                  ∙ sym here ∙ z.faults;
-              written = not_none f;
+              fault = sym (some_first f fault later (err_is f fault _ (sym k ∙ answered))) ∙ here;
+              written = λ x. cc;
               room = z.room;
             }
 
-        pub placing_on : {s : Span} → p ≡ At s → {out' : List ℕ} → SpanPut out (at + i) s out' → Placing c q rows n out₀ at m out' table' page' (i + 1)
-        unfolding later
-        placing_on {s} k {out'} u =
-            let fit : (span_fault_at c q (rows_of rows n) r ≡ none) × (s ≡ record_at c q (rows_of rows n) r) =
-            at_is s (span_fault_at c q (rows_of rows n) r) (record_at c q (rows_of rows n) r) (sym k ∙ answered) in
-            let rest : List Span = map (record_at c q (rows_of rows n)) (cells (row_at rows) (i + 1) (m - (i + 1))) in
-            let x : at + (i + 1) ≡ at + i + 1 = omega arith in
-            let y : spans_of out' (at + (i + 1)) ≡ spans_of out (at + i) ++ (s ∷ []) =
-            ap (spans_of out') x ∙ ap (λ (l : List ℕ). spans_of l (at + i + 1)) u.put ∙ spans_put out (at + i) s (omega (arith, z.asked.room, z.few)) in
+        pub placing_on : {s : Span} → a ≡ Ok s → Placing p m (set out i s) page' (i + 1)
+        unfolding fault later
+        placing_on {s} k =
+            let fit : (fault ≡ none) × (s ≡ record_at p.config p.rect p.rows.now r) = ok_is s fault _ (sym k ∙ answered) in
+            let done : List Span = map (record_at p.config p.rect p.rows.now) (take i p.rows.now) in
             record {
-              asked =
-                  record {
-                    few = z.asked.few;
-                    rowed = z.asked.rowed;
-                    room = omega (arith, z.asked.room, u.room);
-                    across = z.asked.across;
-                    down = z.asked.down;
-                  };
               few = z.few;
-              within = omega arith;
+              room = z.room ∙ sym (length-set out i s);
               lines = own_lines h;
-              faults = sym (none_first (span_fault_at c q (rows_of rows n) r) later fit.0) ∙ sym here ∙ z.faults;
+              faults = sym (none_first fault later fit.0) ∙ here;
               records =
-                  ap (λ (l : List Span). l ++ rest) y ∙ append_assoc (spans_of out (at + i)) (s ∷ []) rest
-                  ∙ ap (λ (t : Span). spans_of out (at + i) ++ (t ∷ rest)) fit.1
-                  ∙ ap (λ (l : List Row). spans_of out (at + i) ++ map (record_at c q (rows_of rows n)) l) (sym ahead) ∙ z.records;
-              marked = λ j d g. marked_as (sym (cell_ahead u (at + j) 1 (omega arith))) (z.marked j (omega arith) g);
-              room = u.room ∙ z.room;
+                  take_more_set out i s (omega (arith, z.room, z.few)) ∙ ap (λ (l : List Span). l ++ (s ∷ [])) z.records
+                  ∙ ap (λ (t : Span). done ++ (t ∷ [])) fit.1
+                  ∙ ap (λ (x : Row). done ++ (record_at p.config p.rect p.rows.now x ∷ [])) er
+                  ∙ sym (map-append (record_at p.config p.rect p.rows.now) (take i p.rows.now) (row_at p.rows.now i ∷ []))
+                  ∙ ap (map (record_at p.config p.rect p.rows.now)) (sym (take_more p.rows.now i blank_row (omega (arith, z.few))));
+              marked = λ j d g. marked_as (ap (λ (y : Span). y.x) (sym (span_stays out i s (set out i s) refl j (λ x. omega arith)))) (z.marked j (omega arith) g);
             }
 
 -- ---- `place_rows`
 
-cells_split : {A : Type 0} (f : ℕ → A) (i k j : ℕ) → cells f i (k + j) ≡ cells f i k ++ cells f (i + k) j
-cells_split f i zero j = let a : 0 + j ≡ j = omega arith in let b : i + 0 ≡ i = omega arith in rw (a, b)
-cells_split {A} f i (suc k) j =
-    let a : suc k + j ≡ suc (k + j) = omega arith in
-    let b : suc i + k ≡ i + suc k = omega arith in
-    ap (cells f i) a ∙ ap (λ (l : List A). f i ∷ l) (cells_split f (suc i) k j ∙ ap (λ (x : ℕ). cells f (suc i) k ++ cells f x j) b)
+pub rows_ready : {p : Pass} {out : List Span} → ChainedTo p.rows.now p.heads.now out → Ready p out
+rows_ready {p} {out} h =
+    record {
+      chained = h.chained;
+      told = λ j q k.
+          let e : length p.rows.now - suc (length p.rows.now - suc j) ≡ j = omega arith in
+          let b : mark_at out (length p.rows.now - suc (length p.rows.now - suc j)) ≡ 0 = h.blank (length p.rows.now - suc j) (omega arith) in
+          let d : mark_at out j ≡ 0 = rw e at b in
+          absurd (omega arith);
+    }
 
 else_assoc : (a b d : Option Refusal) → or_else (or_else a b) d ≡ or_else a (or_else b d)
 unfolding or_else
@@ -441,137 +343,97 @@ unfolding or_else
 faults_split f [] ys = refl
 faults_split f (x ∷ xs) ys = ap (or_else (f x)) (faults_split f xs ys) ∙ sym (else_assoc (f x) (first_fault f xs) (first_fault f ys))
 
-pub rows_ready : {c : Config} {q : Rect} {rows : List ℕ} {n : ℕ} {out : List ℕ} {at : ℕ} {heads out₁ : List ℕ} → Placeable q rows n out at
-    → ChainedTo rows n out at heads out₁ → Ready c q rows n out₁ at heads
-rows_ready {n = n} {at = at} {out₁ = out₁} a h =
-    record {
-      chained = h.chained;
-      across = a.across;
-      told = λ j p k.
-          let e : n - suc (n - suc j) ≡ j = omega arith in
-          let b : mark_at out₁ at (n - suc (n - suc j)) ≡ 0 = h.blank (n - suc j) (omega arith) in
-          let d : mark_at out₁ at j ≡ 0 = rw e at b in
-          absurd (omega arith);
-    }
+pub down_asks : {p : Pass} {out : List Span} {a : Across} → PlacedAcross p out a → DownAsked p out a.count
+down_asks x = record { few = x.few; room = x.room; marked = x.marked }
 
-module _ {c : Config} {q : Rect} {rows : List ℕ} {n : ℕ} {out : List ℕ} {at : ℕ} (asked : Placeable q rows n out at) {heads out₁ : List ℕ}
-    (h : ChainedTo rows n out at heads out₁) {out₂ : List ℕ} {a : Across} (x : PlacedAcross c q rows n out₁ at out₂ a) where
-  pub down_asks : DownAsked c q rows n out₂ at a.count
-  down_asks =
-      record {
-        asked =
-            record {
-              few = asked.few;
-              rowed = asked.rowed;
-              room = omega (arith, asked.room, h.same, x.same);
-              across = asked.across;
-              down = asked.down;
-            };
-        few = x.few;
-        marked = x.marked;
-      }
+faults_at : Pass → Row → Option Refusal
+faults_at p = span_fault_at p.config p.rect p.rows.now
 
-  module _ {out₃ : List ℕ} {d : OptRefusal} (y : PlacedDown c q rows n out₂ at a.count out₃ d) where
-    same : length out₃ ≡ length out
-    same = y.room ∙ x.same ∙ h.same
+module _ {p : Pass} {out : List Span} {a : Across} (x : PlacedAcross p out a) where
+  split : first_fault (faults_at p) p.rows.now
+      ≡ or_else (first_fault (faults_at p) (take a.count p.rows.now)) (first_fault (faults_at p) (drop a.count p.rows.now))
+  split =
+      ap (first_fault (faults_at p)) (sym (take-append-drop a.count p.rows.now))
+      ∙ faults_split (faults_at p) (take a.count p.rows.now) (drop a.count p.rows.now)
 
-    fault : Row → Option Refusal
-    fault = span_fault_at c q (rows_of rows n)
+  pub rows_refused : {out' : List Span} {f : Refusal} → PlacedDown p a.count out' (Err f) → RowByRow p out' (Err f)
+  unfolding faults_at
+  rows_refused {f = f} y = record { fault = sym (some_first f _ (first_fault (faults_at p) (drop a.count p.rows.now)) (sym y.fault)) ∙ sym split; written = λ g. cc }
 
-    split : first_fault fault (rows_of rows n)
-        ≡ or_else (first_fault fault (cells (row_at rows) 0 a.count)) (first_fault fault (cells (row_at rows) a.count (n - a.count)))
-    unfolding rows_of
-    split =
-        let e : n ≡ a.count + (n - a.count) = omega (arith, x.few) in
-        let z : 0 + a.count ≡ a.count = omega arith in
-        ap (λ (k : ℕ). first_fault fault (cells (row_at rows) 0 k)) e
-        ∙ ap (first_fault fault) (cells_split (row_at rows) 0 a.count (n - a.count))
-        ∙ faults_split fault (cells (row_at rows) 0 a.count) (cells (row_at rows) (0 + a.count) (n - a.count))
-        ∙ ap (λ (k : ℕ). or_else (first_fault fault (cells (row_at rows) 0 a.count)) (first_fault fault (cells (row_at rows) k (n - a.count)))) z
+  module _ {out' : List Span} (y : PlacedDown p a.count out' (Ok tt)) where
+    after : first_fault (faults_at p) (drop a.count p.rows.now) ≡ first_fault (faults_at p) p.rows.now
+    unfolding faults_at
+    after = sym (none_first _ (first_fault (faults_at p) (drop a.count p.rows.now)) (sym y.fault)) ∙ sym split
 
-    pub rows_refused : {f : Refusal} → d ≡ Some f → RowByRow c q rows n out at out₃ (Some f)
-    unfolding fault
-    rows_refused {f} k =
+    stop_here : (f : Refusal) → a.end ≡ Err f → RowByRow p out' (Err f)
+    unfolding faults_at span_fault_at
+    stop_here f e =
+        let s : (a.count < length p.rows.now) × (a.end ≡ end_at p a.count) = x.stop f e in
         record {
-          fault = some_first f (first_fault fault (cells (row_at rows) 0 a.count)) _ (ap fault_is (sym k) ∙ y.fault) ∙ sym split;
-          written = not_none f;
-          room = same;
+          fault =
+              sym (some_first f (faults_at p (row_at p.rows.now a.count)) (first_fault (faults_at p) (drop (a.count + 1) p.rows.now))
+              (across_stops p.config p.rect (row_at p.rows.now a.count) (sums_at p a.count) f (sym s.1 ∙ e) _ _ _))
+              ∙ sym (at_drop_more (first_fault (faults_at p)) p.rows.now a.count blank_row s.0) ∙ after;
+          written = λ g. cc;
         }
 
-    none_there : d ≡ None → first_fault fault (cells (row_at rows) 0 a.count) ≡ none
-    unfolding fault
-    none_there k = sym y.fault ∙ ap fault_is k
-
-    stops_there : a.count < n → fault (row_at rows a.count) ≡ some (refusal_of (row_at rows a.count) a.number a.detail)
-    unfolding fault span_fault_at
-    stops_there k =
-        across_stops c q (row_at rows a.count) (sums (row_at rows a.count) none_yet (rows_of rows n)) (record { number = a.number; detail = a.detail })
-        (x.stop k).1 (x.stop k).0 _ _ _
-
-    stop_fault : a.count < n → first_fault fault (cells (row_at rows) a.count (n - a.count))
-        ≡ some (refusal_of (row_at rows a.count) a.number a.detail)
-    stop_fault k =
-        ap (first_fault fault) (cells_next (row_at rows) a.count n k) ∙ sym (some_first _ (fault (row_at rows a.count)) _ (sym (stops_there k)))
-
-    stop_here : d ≡ None → a.count < n → RowByRow c q rows n out at out₃ (Some (refusal_of (row_at rows a.count) a.number a.detail))
-    unfolding fault
-    stop_here k g =
+    all_here : a.end ≡ Ok tt → RowByRow p out' (Ok tt)
+    unfolding faults_at rows_records
+    all_here e =
+        let n : a.count ≡ length p.rows.now = x.all e in
         record {
-          fault = sym (stop_fault g) ∙ sym (none_first _ (first_fault fault (cells (row_at rows) a.count (n - a.count))) (none_there k)) ∙ sym split;
-          written = not_none (refusal_of (row_at rows a.count) a.number a.detail);
-          room = same;
+          fault = sym (at_drop_all (first_fault (faults_at p)) p.rows.now a.count (omega arith)) ∙ after;
+          written = λ _.
+              sym (take_all a.count out' (omega (arith, y.room))) ∙ y.written refl
+              ∙ ap (map (record_at p.config p.rect p.rows.now)) (take_all a.count p.rows.now (omega arith));
         }
 
-    all_here : d ≡ None → n ≤ a.count → RowByRow c q rows n out at out₃ None
-    unfolding fault rows_of rows_records
-    all_here k g =
-        let m : a.count ≡ n = omega (arith, x.few) in
-        record {
-          fault = rw m at (sym (none_there k));
-          written = λ _. (rw m at (y.written k)) ∙ ap (λ (l : List Span). l ++ rows_records c q (rows_of rows n)) (x.spans ∙ h.spans);
-          room = same;
-        }
-
-    pub rows_done : d ≡ None → {r : OptRefusal} → r ≡ stopped_at rows n a → RowByRow c q rows n out at out₃ r
-    rows_done k {r} e = step (ltb a.count n) refl
+    pub rows_done : RowByRow p out' a.end
+    rows_done = step a.end refl
       where
-        step : (t : Bool) → ltb a.count n ≡ t → RowByRow c q rows n out at out₃ r
-        step true l = rw (e, l) (stop_here k (ltb-true a.count n l))
-        step false l = rw (e, l) (all_here k (ltb-false a.count n l))
-
--- ---- `stopped`
-
-module _ (rows : List ℕ) (n : ℕ) (a : Across) where
-  pub stopped_some : a.count < n → {r : Row} → r ≡ row_at rows a.count
-      → Some (record { number = a.number; start = r.start; length = r.len; detail = a.detail }) ≡ stopped_at rows n a
-  stopped_some h e = rw (lt-ltb a.count n h, e)
-
-  pub stopped_none : n ≤ a.count → None ≡ stopped_at rows n a
-  stopped_none h = rw (le-ltb a.count n h)
+        step : (e : Result (Unit {0}) Refusal) → a.end ≡ e → RowByRow p out' e
+        step (Ok t) k = all_here k
+        step (Err f) k = stop_here f k
 
 -- ---- `place_pass`
 
 -- a pass without spans
-pub pass_empty : {c : Config} {q : Rect} {rows : List ℕ} {n : ℕ} {out : List ℕ} {at : ℕ} → n ≡ 0 → PassPlaced c q rows n out at out None
-unfolding rows_of rows_fault rows_records or_else
-pass_empty {c} {q} {rows} {n} {out} {at} e =
-    let x : at + n ≡ at = omega arith in
-    record { fault = rw e; written = λ _. ap (spans_of out) x ∙ sym (append-nil (spans_of out at)) ∙ rw e; room = refl }
+pub pass_empty : {c : Config} {q : Rect} {rows : List Row} {out : List Span} → Placeable q rows out → length rows ≡ 0 → PassPlaced c q rows out (Ok tt)
+unfolding rows_fault rows_records or_else
+pass_empty {c} {q} {rows} {out} a e =
+    let x : rows ≡ [] = nil_from_length rows e in
+    let y : out ≡ [] = nil_from_length out (omega (arith, a.room)) in
+    record { fault = rw x; written = λ _. rw (x, y) }
 
--- b is what `check_justification` answered
-module _ {c : Config} {q : Rect} {rows : List ℕ} {n : ℕ} {b : OptRefusal} (e : fault_is b ≡ back_rows 0 0 0 (rows_of rows n)) where
-  pub pass_back : {out : List ℕ} {at : ℕ} {f : Refusal} → b ≡ Some f → PassPlaced c q rows n out at out (Some f)
-  unfolding rows_fault
-  pass_back {f = f} k =
-      let rs : List Row = rows_of rows n in
-      record { fault = some_first f (back_rows 0 0 0 rs) (first_fault (span_fault_at c q rs) rs) (ap fault_is (sym k) ∙ e); written = not_none f; room = refl }
+-- 9, and else row by row
+pub pass_back : {c : Config} {q : Rect} {rows : List Row} {out : List Span} {f : Refusal} → some f ≡ back_rows 0 0 0 rows
+    → PassPlaced c q rows out (Err f)
+unfolding rows_fault
+pass_back {c} {q} {rows} {f = f} e =
+    record { fault = sym (some_first f (back_rows 0 0 0 rows) (first_fault (span_fault_at c q rows) rows) (sym e)); written = λ g. cc }
 
-  pub pass_on : {out : List ℕ} {at : ℕ} {out' : List ℕ} {r : OptRefusal} → b ≡ None → RowByRow c q rows n out at out' r → PassPlaced c q rows n out at out' r
-  unfolding rows_fault
-  pass_on k d =
-      let rs : List Row = rows_of rows n in
-      record {
-        fault = d.fault ∙ sym (none_first (back_rows 0 0 0 rs) (first_fault (span_fault_at c q rs) rs) (sym e ∙ ap fault_is k));
-        written = d.written;
-        room = d.room;
-      }
+pub pass_on : {p : Pass} → none ≡ back_rows 0 0 0 p.rows.now → {out : List Span} {r : Result (Unit {0}) Refusal} → RowByRow p out r
+    → PassPlaced p.config p.rect p.rows.now out r
+unfolding rows_fault
+pass_on {p} e d =
+    record {
+      fault = d.fault ∙ sym (none_first (back_rows 0 0 0 p.rows.now) (first_fault (span_fault_at p.config p.rect p.rows.now) p.rows.now) (sym e));
+      written = d.written;
+    }
+
+-- ---- a pass of the first n rows of a slice, with the records from number at on of another
+
+pub asks_part : {q : Rect} (rows : List Row) (n : ℕ) (out : List Span) (at : ℕ) → at + n ≤ 2048 → n ≤ length rows → at + n ≤ length out
+    → q.left + q.width ≤ 4096 → q.top + q.height ≤ 4096 → Placeable q (rows_of rows n) (take (at + n - at) (drop at out))
+asks_part rows n out at f h k a d =
+    let x : length (rows_of rows n) ≡ n = length-take-le n rows h in
+    let y : length (take (at + n - at) (drop at out)) ≡ at + n - at = length-take-le (at + n - at) (drop at out) (omega (arith, length-drop at out)) in
+    record { few = omega (arith, x); room = omega (arith, x, y); across = a; down = d }
+
+pub written_part : {c : Config} {q : Rect} (rows : List Row) (n : ℕ) {part : List Span} {r : Result (Unit {0}) Refusal}
+    → PassPlaced c q (rows_of rows n) part r → r ≡ Ok tt → n ≤ length rows → (out : List Span) (at k : ℕ) → at ≤ length out
+    → spans_of (put_mid at k out part) (at + n) ≡ spans_of out at ++ rows_records c q (rows_of rows n)
+unfolding rows_records
+written_part {c} {q} rows n {part} p e h out at k a =
+    let x : length part ≡ n = ap length (p.written e) ∙ length-map (rows_of rows n) (record_at c q (rows_of rows n)) ∙ length-take-le n rows h in
+    take-put_mid at k out part (at + n) (omega (arith, x)) a ∙ ap (λ (l : List Span). spans_of out at ++ l) (p.written e)

@@ -1,5 +1,7 @@
 -- Document 01, "Placing", over the measured rows of a pass: the records, and the first of refusals 9 to 14.
-use Rattle.std.specs.Prelude.{ℕ, suc, ◌+◌, ◌-◌, ◌/◌, ◌≤◌, ◌≡◌, Bool, not, ◌&&◌, ◌||◌, List, [], ◌∷◌, ◌++◌, map, leb, ltb, eqb, length}
+use Rattle.std.specs.Prelude.{ℕ, suc, ◌+◌, ◌-◌, ◌/◌, ◌≤◌, ◌≡◌, Bool, not, ◌&&◌, ◌||◌, List, [], ◌∷◌, map, leb, ltb, eqb, length, Result, Ok, Err, Some, None}
+use Rattle.std.specs.Prelude.{Option as Opt}
+use Rattle.std.specs.Option.{option_or}
 use Rattle.std.proofs.Math.Option.{Option, none, some}
 use Rattle.base.specs.Pick.{pick}
 use Rattle.refusal.specs.declared.Refusal.{Refusal}
@@ -8,20 +10,20 @@ use Rattle.layout.specs.declared.Rect.{Rect}
 use Rattle.layout.specs.declared.Span.{Span}
 use Rattle.refusal.specs.Refusals.{refusal}
 use Rattle.layout.specs.Placing.{trunc, or_else, unless, first_fault, place_x, above, below, baseline}
-use Rattle.refusal.specs.declared.OptRefusal.{OptRefusal}
-use Rattle.refusal.specs.declared.OptRefusal.TheVariants.{None}
-use Rattle.page.specs.Scan.{fault_is}
 use Rattle.rows.specs.declared.Fault.{Fault}
 use Rattle.rows.specs.declared.Row.{Row}
-use Rattle.rows.specs.Rows.{RowRoom, SpanRoom, rows_of, spans_of}
 use Rattle.rows.specs.Measured.{fault_of}
 use Rattle.sums.specs.declared.Sums.{Sums}
 use Rattle.sums.specs.Sums.{sums, none_yet}
 use Rattle.lines.specs.declared.PageLines.{PageLines}
 use Rattle.lines.specs.declared.Heights.{Heights}
 use Rattle.lines.specs.Lines.{lines_from, font_fault_from, PageHeights}
-use Rattle.place.specs.declared.Placed.{Placed}
-use Rattle.place.specs.declared.Placed.TheVariants.{At, Refused}
+use Rattle.place.specs.declared.shared.Pass.{Pass}
+
+-- the refusal of an answer, if it is one
+abbrev pub refused_by : {A : Type 0} → Result A Refusal → Option Refusal
+refused_by (Ok x) = none
+refused_by (Err f) = some f
 
 -- ---- 9
 
@@ -77,18 +79,20 @@ module _ (c : Config) (q : Rect) (r : Row) (o : Sums) (a b : ℕ) where
 
   unfoldable pub fault_with : Option (ℕ × ℕ) → Option Refusal
   fault_with f =
-      or_else (fault_at r (fault_of o.fault o.detail))
+      or_else (fault_at r (fault_of o.fault))
       (or_else (unless (leb (o.before + o.after) q.width) (refusal_of r 13 0))
       (or_else (fault_at r f)
       (or_else (unless (leb (a + b) q.height) (refusal_of r 13 0))
       (unless (leb r.height base_with) (refusal_of r 14 0)))))
 
--- the refusal of a group by its sums, or zeros
-abbrev pub across_fault : Rect → Sums → Fault
-across_fault q o =
-    pick (eqb o.fault 0)
-    (pick (ltb q.width (o.before + o.after)) (record { number = 13; detail = 0 }) (record { number = 0; detail = 0 }))
-    (record { number = o.fault; detail = o.detail })
+-- the fault of a group by its sums: its first, or 13
+abbrev pub across_fault : Rect → Sums → Opt Fault
+across_fault q o = option_or o.fault (pick (ltb q.width (o.before + o.after)) (Some (record { number = 13; detail = 0 })) None)
+
+-- a fault of a row refuses it
+abbrev pub fault_end : Row → Opt Fault → Result (Unit {0}) Refusal
+fault_end r None = Ok tt
+fault_end r (Some f) = Err (refusal_of r f.number f.detail)
 
 -- where a row stands across, with a before it in its group and b from there on
 abbrev pub across_at : Config → Rect → Row → ℕ → ℕ → ℕ
@@ -96,29 +100,27 @@ across_at c q r a b = stands_at r.just_line c.char_width q.left q.width a b
 
 -- a row with the sums o of its group stands at x across, and the group fits
 pub record Crossed (c : Config) (q : Rect) (r : Row) (o : Sums) (x : ℕ) : Type 0 where
-  pub fine : o.fault ≡ 0
+  pub fine : o.fault ≡ None
   pub wide : o.before + o.after ≤ q.width
   pub is : x ≡ across_at c q r o.before o.after
 
 -- a refusal, or else a record
-abbrev pub placed_by : Option Refusal → Span → Placed
-placed_by none s = At s
-placed_by (some f) s = Refused f
+abbrev pub placed_by : Option Refusal → Span → Result Span Refusal
+placed_by none s = Ok s
+placed_by (some f) s = Err f
 
 -- the same with the heights v
-unfoldable pub placed_with : Config → Rect → Row → Sums → Heights → Placed
-placed_with c q r o v = placed_by (fault_with c q r o v.above v.below (fault_of v.fault v.detail)) (record_with c q r o v.above v.below)
+unfoldable pub placed_with : Config → Rect → Row → Sums → Heights → Result Span Refusal
+placed_with c q r o v = placed_by (fault_with c q r o v.above v.below (fault_of v.fault)) (record_with c q r o v.above v.below)
 
 -- a row and heights that it can be placed with
-pub record SpanAsked (q : Rect) (r : Row) (v : Heights) : Type 0 where
-  pub across : q.left + q.width ≤ 4096
-  pub down : q.top + q.height ≤ 4096
-  pub part : r.width ≤ q.width
+pub record SpanAsked (p : Pass) (r : Row) (v : Heights) : Type 0 where
+  pub part : r.width ≤ p.rect.width
   pub high : v.above + v.below ≤ 33554432
 
 -- the row at x across was placed as with its group's sums, whatever they are
-abbrev pub SpanPlaced : Config → Rect → Row → ℕ → Heights → Placed → Type 0
-SpanPlaced c q r x v p = (o : Sums) → Crossed c q r o x → p ≡ placed_with c q r o v
+abbrev pub SpanPlaced : Pass → Row → ℕ → Heights → Result Span Refusal → Type 0
+SpanPlaced p r x v a = (o : Sums) → Crossed p.config p.rect r o x → a ≡ placed_with p.config p.rect r o v
 
 -- ---- the rows of a pass
 
@@ -142,28 +144,23 @@ module _ (c : Config) (q : Rect) (rs : List Row) where
   unfoldable pub rows_records : List Span
   rows_records = map record_at rs
 
--- the first n rows can be placed in the rectangle q, as records from number at on
-pub record Placeable (q : Rect) (rows : List ℕ) (n : ℕ) (out : List ℕ) (at : ℕ) : Type 0 where
-  pub few : at + n ≤ 2048
-  pub rowed : RowRoom n rows
-  pub room : SpanRoom (at + n) out
+-- rows can be placed in the rectangle q, each in its record
+pub record Placeable (q : Rect) (rows : List Row) (out : List Span) : Type 0 where
+  pub few : length rows ≤ 2048
+  pub room : length rows ≡ length out
   pub across : q.left + q.width ≤ 4096
   pub down : q.top + q.height ≤ 4096
 
--- the lines of page, the last ones made, stand in the table
-pub record LinesMade (ch : ℕ) (rows : List ℕ) (n : ℕ) (table : List ℕ) (page : PageLines) : Type 0 where
-  pub few : n ≤ 2048
-  pub rowed : RowRoom n rows
-  pub lines : PageHeights ch rows n page.just table page
+-- the lines of page, the last ones made, are those of a page justification
+abbrev pub LinesMade : Pass → PageLines → Type 0
+LinesMade p page = PageHeights p.config.char_height p.rows.now page.just page
 
 -- they were placed row by row: a refusal, or all records
-pub record RowByRow (c : Config) (q : Rect) (rows : List ℕ) (n : ℕ) (out : List ℕ) (at : ℕ) (out' : List ℕ) (r : OptRefusal) : Type 0 where
-  pub fault : fault_is r ≡ first_fault (span_fault_at c q (rows_of rows n)) (rows_of rows n)
-  pub written : r ≡ None → spans_of out' (at + n) ≡ spans_of out at ++ rows_records c q (rows_of rows n)
-  pub room : length out' ≡ length out
+pub record RowByRow (p : Pass) (out : List Span) (r : Result (Unit {0}) Refusal) : Type 0 where
+  pub fault : refused_by r ≡ first_fault (span_fault_at p.config p.rect p.rows.now) p.rows.now
+  pub written : r ≡ Ok tt → out ≡ rows_records p.config p.rect p.rows.now
 
 -- the pass was placed: 9 before them
-pub record PassPlaced (c : Config) (q : Rect) (rows : List ℕ) (n : ℕ) (out : List ℕ) (at : ℕ) (out' : List ℕ) (r : OptRefusal) : Type 0 where
-  pub fault : fault_is r ≡ rows_fault c q (rows_of rows n)
-  pub written : r ≡ None → spans_of out' (at + n) ≡ spans_of out at ++ rows_records c q (rows_of rows n)
-  pub room : length out' ≡ length out
+pub record PassPlaced (c : Config) (q : Rect) (rows : List Row) (out : List Span) (r : Result (Unit {0}) Refusal) : Type 0 where
+  pub fault : refused_by r ≡ rows_fault c q rows
+  pub written : r ≡ Ok tt → out ≡ rows_records c q rows

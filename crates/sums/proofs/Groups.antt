@@ -10,7 +10,7 @@ use Rattle.base.specs.Pick.{pick}
 use Rattle.rows.specs.declared.Row.{Row}
 use Rattle.sums.specs.declared.Sums.{Sums}
 use Rattle.sums.specs.Sums.{same_row, gap_of, joined, advanced, sums, none_yet}
-use Rattle.sums.proofs.Laws.{halves}
+use Rattle.sums.proofs.Laws.{halves, advance_no}
 
 pub same_self : (r : Row) → same_row r r ≡ true
 same_self r = rw (eq-eqb r.just_page r.just_page refl, eq-eqb r.line r.line refl, eq-eqb r.just_line r.just_line refl)
@@ -42,7 +42,6 @@ pub record Alike (a b : Sums) : Type 0 where
   pub count : a.count ≡ b.count
   pub spacing : a.spacing ≡ b.spacing
   pub fault : a.fault ≡ b.fault
-  pub detail : a.detail ≡ b.detail
 
 pub alike_gap : (a b : Sums) (e : Row) → Alike a b → gap_of a e ≡ gap_of b e
 alike_gap a b e q = rw (q.count, q.spacing)
@@ -62,8 +61,7 @@ alike_join n k a b e q =
           );
       count = ap suc q.count;
       spacing = refl;
-      fault = rw (q.fault, q.detail);
-      detail = rw (q.fault, q.detail);
+      fault = rw q.fault;
     }
 
 alike_on : (r q : Row) → same_row r q ≡ true → (a b : Sums) (e : Row) → Alike a b → Alike (advanced r a e) (advanced q b e)
@@ -82,21 +80,13 @@ alike r q h a b (e ∷ es) k = alike r q h (advanced r a e) (advanced q b e) es 
 
 -- the group's total, count and first fault are those of each of its rows
 pub alike_all : (r q : Row) → same_row r q ≡ true → (es : List Row) → Alike (sums r none_yet es) (sums q none_yet es)
-alike_all r q h es = alike r q h none_yet none_yet es (record { total = refl; count = refl; spacing = refl; fault = refl; detail = refl })
+alike_all r q h es = alike r q h none_yet none_yet es (record { total = refl; count = refl; spacing = refl; fault = refl })
 
 -- ---- one row more
 
 pub sums_last : (r : Row) (o : Sums) (es : List Row) (e : Row) → sums r o (es ++ (e ∷ [])) ≡ advanced r (sums r o es) e
 sums_last r o [] e = refl
 sums_last r o (x ∷ es) e = sums_last r (advanced r o x) es e
-
-pub advance_yes : (r : Row) (o : Sums) (e : Row) → same_row r e ≡ true → advanced r o e ≡ joined r.span o e
-unfolding advanced
-advance_yes r o e h = rw h
-
-pub advance_no : (r : Row) (o : Sums) (e : Row) → same_row r e ≡ false → advanced r o e ≡ o
-unfolding advanced
-advance_no r o e h = rw h
 
 apart : (a b c : Bool) → b ≡ false → a && (b && c) ≡ false
 apart true b c h = rw h

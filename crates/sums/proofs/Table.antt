@@ -6,25 +6,34 @@ use mathlib.Core.List.{List, [], ◌∷◌, ◌++◌}
 use native.Mathlib.Numerals.{add-one}
 use native.Mathlib.Omega.{arith}
 use lib.Dec.{leb, eqb}
-use lib.ListN.{length, get_or, set, length-set, replicate}
+use lib.ListN.{length, get_or, set, take, drop, length-set, replicate}
 use lib.Seq.{get_or-set_same, get_or-set_other}
+use Rattle.std.specs.List.{sum}
+use Rattle.std.proofs.lemmas.List.{take-take, drop-take}
+use Rattle.std.proofs.lemmas.List.Sums.{sum_by_more, sum_by-take-drop}
 use borrow.Author.Tests.{le-leb, lt-leb, leb-true, leb-false, eqb-true, eqb-false}
 use Rattle.base.specs.Pick.{pick}
+use Rattle.layout.specs.declared.Span.{Span}
 use Rattle.rows.specs.declared.Row.{Row}
-use Rattle.rows.specs.Rows.{row_at, rows_of, cell_at}
+use Rattle.rows.specs.Rows.{row_at, link_at}
 use Rattle.sums.specs.declared.Sums.{Sums}
-use Rattle.sums.specs.Sums.{same_row, gap_of, joined, advanced, sums, none_yet, GrownTo}
+use Rattle.sums.specs.Sums.{same_row, gap_of, joined, sums, none_yet, GrownTo}
 use Rattle.sums.specs.Chain.{until_last, Chained, Walk}
-use Rattle.sums.specs.Table.{upto, Small, Added, AddedRow, TableOf, Gathered, Room, Entered}
-use Rattle.sums.proofs.Groups.{line_is_law, same_as, alike_gap, alike_all, sums_last, advance_yes, advance_no}
-use Rattle.sums.proofs.Chain.{nil_at, walk_start, walk_begun, walk_less, walk_on, walked, walk_done}
+use Rattle.sums.specs.Table.{upto, Small, AddedRow, TableOf, Gathered, Room, Entered}
+use Rattle.sums.proofs.Laws.{advance_yes, advance_no}
+use Rattle.sums.proofs.Groups.{line_is_law, same_as, alike_gap, alike_all, sums_last}
+use Rattle.sums.proofs.Chain.{walk_start, walk_begun, walk_less, walk_on, walked, walk_done}
 
--- ---- `add_at`, `add_row`
+-- ---- `add_row`
 
 pub small_more : {b d : ℕ} {l : List ℕ} → Small b l → b ≤ d → Small d l
 small_more s h = record { size = s.size; most = λ j. omega (arith, s.most j) }
 
--- x more at place s of l
+-- x was added at place s of l
+pub record Added (l m : List ℕ) (s x : ℕ) : Type 0 where
+  pub sums : (k : ℕ) → upto m k ≡ upto l k + pick (leb s k) x 0
+  pub small : (b : ℕ) → Small b l → Small (b + x) m
+
 module _ (l : List ℕ) (s x : ℕ) (h : s < length l) where
   at_place : (j : ℕ) → get_or (set l s (get_or l s 0 + x)) j 0 ≡ get_or l j 0 + pick (eqb s j) x 0
   at_place j = step (eqb s j) refl
@@ -68,12 +77,15 @@ module _ (l : List ℕ) (s x : ℕ) (h : s < length l) where
   adds = record { sums = add_sums; small = add_small }
 
 -- both places of a row: s is its number, w its width
-pub adds_row : {l m p : List ℕ} {e : Row} {g s : ℕ} → (s ≡ e.span) × (s < 256) → g < 65536 → Added l m s g → {w : ℕ} → (w ≡ e.width) × (w < 4294967296)
-    → Added m p (s + 1) w → AddedRow l p e g
-adds_row {s = s} es hg x ew y =
+pub adds_row : {l : List ℕ} {e : Row} {g s : ℕ} → s ≡ e.span → s < 256 → g < 65536 → length l ≡ 257 → {w : ℕ} → w ≡ e.width → w < 4294967296
+    → AddedRow l (set (set l s (get_or l s 0 + g)) (s + 1) (get_or (set l s (get_or l s 0 + g)) (s + 1) 0 + w)) e g
+adds_row {l} {e} {g} {s} es hs hg hl {w} ew hw =
+    let m : List ℕ = set l s (get_or l s 0 + g) in
+    let x : Added l m s g = adds l s g (omega arith) in
+    let y : Added m (set m (s + 1) (get_or m (s + 1) 0 + w)) (s + 1) w = adds m (s + 1) w (omega (arith, length-set l s (get_or l s 0 + g))) in
     record {
-      sums = λ k. y.sums k ∙ rw (x.sums k, add-one s, es.0, ew.0);
-      small = λ b h. small_more (y.small _ (x.small b h)) (omega (arith, ew.1));
+      sums = λ k. y.sums k ∙ rw (x.sums k, add-one s, es, ew);
+      small = λ b h. small_more (y.small _ (x.small b h)) (omega arith);
     }
 
 -- ---- `enter`: t is what `matches_span` answered
@@ -109,17 +121,22 @@ module _ (r e : Row) {t : Bool} (f : t ≡ same_row r e) (l : List ℕ) (o : Sum
 
 -- ---- `gather`: the rows before the last k are added up
 
+nil_at : (n j : ℕ) → get_or (replicate {A = ℕ} n 0) j 0 ≡ 0
+nil_at zero j = refl
+nil_at (suc n) zero = refl
+nil_at (suc n) (suc j) = nil_at n j
+
 nil_sums : (k : ℕ) → upto (replicate {A = ℕ} 257 0) k ≡ 0
 nil_sums zero = refl
 nil_sums (suc k) = omega (arith, nil_sums k, nil_at 257 (suc k))
 
-pub record Gathering (rows : List ℕ) (n : ℕ) (out : List ℕ) (at : ℕ) (heads : List ℕ) (r : Row) (l : List ℕ) (o : Sums) (k : ℕ) : Type 0 where
-  pub chained : Chained rows n out at heads
-  pub walk : Walk rows n r k
-  pub gathered : Gathered (n - k) (until_last rows n k) r l o
+pub record Gathering (rows : List Row) (out : List Span) (heads : List ℕ) (r : Row) (l : List ℕ) (o : Sums) (k : ℕ) : Type 0 where
+  pub chained : Chained rows out heads
+  pub walk : Walk rows r k
+  pub gathered : Gathered (length rows - k) (until_last rows k) r l o
 
-pub gather_start : {rows : List ℕ} {n : ℕ} {out : List ℕ} {at : ℕ} {heads : List ℕ} → Chained rows n out at heads → {l : List ℕ} → l ≡ replicate 257 0
-    → {r : Row} → r.line < 256 → {o : Sums} → o ≡ none_yet → {k : ℕ} → k ≡ get_or heads r.line 0 → Gathering rows n out at heads r l o k
+pub gather_start : {rows : List Row} {out : List Span} {heads : List ℕ} → Chained rows out heads → {l : List ℕ} → l ≡ replicate 257 0
+    → {r : Row} → r.line < 256 → {o : Sums} → o ≡ none_yet → {k : ℕ} → k ≡ get_or heads r.line 0 → Gathering rows out heads r l o k
 gather_start c {l} el {r} h eo ek =
     record {
       chained = c;
@@ -136,25 +153,29 @@ gather_start c {l} el {r} h eo ek =
           };
     }
 
-module _ {rows : List ℕ} {n : ℕ} {out : List ℕ} {at : ℕ} {heads : List ℕ} {r : Row} {l : List ℕ} {o : Sums} {k : ℕ}
-    (z : Gathering rows n out at heads r l o k) where
+module _ {rows : List Row} {out : List Span} {heads : List ℕ} {r : Row} {l : List ℕ} {o : Sums} {k : ℕ}
+    (z : Gathering rows out heads r l o k) where
   pub gather_room : Room l o
   gather_room =
-      let few : at + n ≤ 2048 = z.chained.asked.few in
+      let few : length rows ≤ 2048 = z.chained.asked.few in
       record {
         small = small_more z.gathered.small (omega arith);
         sum = omega (arith, z.gathered.most);
         rows = omega (arith, z.gathered.rows);
       }
 
-  module _ (more : 0 < k) {k' : ℕ} (e : k' ≡ cell_at out (at + (n - k)) 0) where
+  module _ (more : 0 < k) {k' : ℕ} (e : k' ≡ link_at out (length rows - k)) where
     pub gather_less : k' < k
     gather_less = walk_less z.chained z.walk more e
 
-    pub gather_on : {x : Row} → x ≡ row_at rows (n - k) → {m : List ℕ} {q : Sums} → Entered r x l o m q → Gathering rows n out at heads r m q k'
-    gather_on {x} ex {m} {q} d =
-        let g : Gathered (n - k + 1) (until_last rows n k ++ (x ∷ [])) r m q = d (n - k) (until_last rows n k) z.gathered in
-        let up : n - k + 1 ≤ n - k' = omega (arith, gather_less, z.walk.within) in
+    here : Row
+    here = row_at rows (length rows - k)
+
+    pub gather_on : {m : List ℕ} {q : Sums} → Entered r (row_at rows (length rows - k)) l o m q → Gathering rows out heads r m q k'
+    unfolding here
+    gather_on {m} {q} d =
+        let g : Gathered (length rows - k + 1) (until_last rows k ++ (here ∷ [])) r m q = d (length rows - k) (until_last rows k) z.gathered in
+        let up : length rows - k + 1 ≤ length rows - k' = omega (arith, gather_less, z.walk.within) in
         record {
           chained = z.chained;
           walk = walk_on z.chained z.walk more e;
@@ -168,19 +189,17 @@ module _ {rows : List ℕ} {n : ℕ} {out : List ℕ} {at : ℕ} {heads : List �
               };
         }
       where
-        on : (p : Row) → p.line ≡ r.line → sums p none_yet (until_last rows n k ++ (x ∷ [])) ≡ sums p none_yet (until_last rows n k')
-        on p hp =
-            sums_last p none_yet (until_last rows n k) x ∙ ap (advanced p (sums p none_yet (until_last rows n k))) ex
-            ∙ sym (walked z.chained z.walk more e p hp)
+        on : (p : Row) → p.line ≡ r.line → sums p none_yet (until_last rows k ++ (here ∷ [])) ≡ sums p none_yet (until_last rows k')
+        on p hp = sums_last p none_yet (until_last rows k) here ∙ sym (walked z.chained z.walk more e p hp)
 
-  pub gather_end : k ≤ 0 → TableOf (rows_of rows n) r l
+  pub gather_end : k ≤ 0 → TableOf rows r l
   gather_end h =
       record {
         size = z.gathered.small.size;
-        tells = λ q s. ap (λ (rs : List Row). (sums q none_yet rs).before) (sym (walk_done rows n k h)) ∙ z.gathered.tells q s;
+        tells = λ q s. ap (λ (rs : List Row). (sums q none_yet rs).before) (sym (walk_done rows k h)) ∙ z.gathered.tells q s;
       }
 
--- ---- `sum_to`, `reach`
+-- ---- `reach`
 
 upto_most : (l : List ℕ) (j k : ℕ) → j ≤ k → upto l j ≤ upto l k
 upto_most l j zero h = let e : j ≡ 0 = omega arith in rw e (omega arith)
@@ -190,27 +209,17 @@ upto_most l j (suc k) h = step (leb j k) refl (upto_most l j k)
     step true q ih = omega (arith, ih (leb-true j k q))
     step false q ih = let e : j ≡ suc k = omega (arith, leb-false j k q) in rw e (omega arith)
 
--- the sum of the places up to j
-pub record Reaching (l : List ℕ) (k j sum : ℕ) : Type 0 where
-  pub low : j ≤ k
-  pub high : k < 256
-  pub size : length l ≡ 257
-  pub is : sum ≡ upto l j
-  pub most : upto l k ≤ 17592186044416
+-- the sum of the places up to k is that of the first k + 1, and splits at p
+pub upto_is : (l : List ℕ) (k : ℕ) → k < length l → upto l k ≡ sum (take (k + 1) l)
+upto_is l zero h = omega (arith, sum_by_more (λ (x : ℕ). x) l 0 0 h)
+upto_is l (suc k) h =
+    let e : suc k ≡ k + 1 = omega arith in
+    rw (sum_by_more (λ (x : ℕ). x) l (suc k) 0 h, e, ← upto_is l k (omega arith)) refl
 
-pub reach_start : {l : List ℕ} {j k sum : ℕ} → (j ≤ k) × (k < 256) × (length l ≡ 257) × (sum ≡ upto l j) × (upto l k ≤ 17592186044416) → Reaching l k j sum
-reach_start h = record { low = h.0; high = h.1; size = h.2; is = h.3; most = h.4 }
-
-module _ {l : List ℕ} {k j sum : ℕ} (z : Reaching l k j sum) where
-  module _ (more : j < k) where
-    next : sum + get_or l (j + 1) 0 ≡ upto l (j + 1)
-    next = rw (add-one j, z.is)
-
-    pub reach_fits : sum + get_or l (j + 1) 0 ≤ 17592186044416
-    reach_fits = omega (arith, next, upto_most l (j + 1) k (omega arith), z.most)
-
-    pub reach_on : Reaching l k (j + 1) (sum + get_or l (j + 1) 0)
-    reach_on = record { low = omega arith; high = z.high; size = z.size; is = next; most = z.most }
-
-  pub reach_end : k ≤ j → sum ≡ upto l k
-  reach_end h = let e : j ≡ k = omega (arith, z.low) in rw e at z.is
+pub upto_split : (l : List ℕ) (p k : ℕ) → p ≤ k → k < length l → upto l k ≡ upto l p + sum (take (k + 1 - (p + 1)) (drop (p + 1) l))
+upto_split l p k h q =
+    let m : ℕ = k + 1 - (p + 1) in
+    let e : k + 1 ≡ p + 1 + m = omega arith in
+    let x : List ℕ = take (p + 1 + m) l in
+    upto_is l k q ∙ ap (λ (n : ℕ). sum (take n l)) e ∙ sym (sum_by-take-drop (λ (y : ℕ). y) x (p + 1))
+    ∙ rw (take-take (p + 1) (p + 1 + m) l (omega arith), drop-take (p + 1) m l, ← upto_is l p (omega arith)) refl

@@ -1,10 +1,8 @@
 -- Offsets across, one step for each row of the pass.
-use Rattle.std.specs.Prelude.{ℕ, suc, ◌+◌, ◌/◌, ◌≤◌, ◌≡◌, Bool, ◌&&◌, List, [], ◌∷◌, leb, ltb, eqb}
+use Rattle.std.specs.Prelude.{ℕ, suc, ◌+◌, ◌/◌, ◌≤◌, ◌≡◌, Bool, ◌&&◌, List, [], ◌∷◌, leb, ltb, eqb, None}
+use Rattle.std.specs.Option.{option_or}
 use Rattle.base.specs.Pick.{pick}
-use Rattle.rows.specs.declared.Fault.{Fault}
 use Rattle.rows.specs.declared.Row.{Row}
-use Rattle.rows.specs.Rows.{rows_of}
-use Rattle.rows.specs.Measured.{earlier_of}
 use Rattle.sums.specs.declared.Sums.{Sums}
 
 -- `matches_span`
@@ -13,11 +11,7 @@ same_row r e = eqb r.just_page e.just_page && (eqb r.line e.line && eqb r.just_l
 
 -- the spacing due before a row
 abbrev pub gap_of : Sums → Row → ℕ
-gap_of o e = pick (eqb o.count 0) 0 (pick (eqb e.fixed 1) e.spacing ((o.spacing + e.spacing + 1) / 2))
-
--- the first fault, with a row more
-abbrev pub first_of : Sums → Row → Fault
-first_of o e = earlier_of (record { number = o.fault; detail = o.detail }) (record { number = e.fault; detail = e.detail })
+gap_of o e = pick (eqb o.count 0) 0 (pick e.fixed e.spacing ((o.spacing + e.spacing + 1) / 2))
 
 -- a row of the group joins the sums for span number n, with the gap before it
 abbrev pub joined_by : ℕ → Sums → Row → ℕ → Sums
@@ -27,8 +21,7 @@ joined_by n o e g =
       after = o.after + pick (leb e.span n) 0 g + pick (ltb e.span n) 0 e.width;
       count = suc o.count;
       spacing = e.spacing;
-      fault = (first_of o e).number;
-      detail = (first_of o e).detail;
+      fault = option_or o.fault e.fault;
     }
 
 abbrev pub joined : ℕ → Sums → Row → Sums
@@ -45,7 +38,7 @@ sums r o (e ∷ es) = sums r (advanced r o e) es
 
 -- before the first row
 abbrev pub none_yet : Sums
-none_yet = record { before = 0; after = 0; count = 0; spacing = 0; fault = 0; detail = 0 }
+none_yet = record { before = 0; after = 0; count = 0; spacing = 0; fault = None }
 
 -- sums with room for one row more
 pub record Addable (o : Sums) : Type 0 where
@@ -58,7 +51,7 @@ pub record GrownTo (o next q : Sums) : Type 0 where
   pub most : q.before + q.after ≤ o.before + o.after + 8589934592
   pub rows : q.count ≤ suc o.count
 
--- the sums of the first n rows, for the span with the row r
-pub record SumsOf (rows : List ℕ) (n : ℕ) (r : Row) (s : Sums) : Type 0 where
-  pub is : s ≡ sums r none_yet (rows_of rows n)
+-- the sums of the rows of a pass, for the span with the row r
+pub record SumsOf (rows : List Row) (r : Row) (s : Sums) : Type 0 where
+  pub is : s ≡ sums r none_yet rows
   pub most : s.before + s.after ≤ 17592186044416

@@ -16,11 +16,6 @@ pub record Small (b : ℕ) (l : List ℕ) : Type 0 where
   pub size : length l ≡ 257
   pub most : (j : ℕ) → get_or l j 0 ≤ b
 
--- x was added at place s of l
-pub record Added (l m : List ℕ) (s x : ℕ) : Type 0 where
-  pub sums : (k : ℕ) → upto m k ≡ upto l k + pick (leb s k) x 0
-  pub small : (b : ℕ) → Small b l → Small (b + x) m
-
 -- the row e was added to l, with the gap g before it
 pub record AddedRow (l m : List ℕ) (e : Row) (g : ℕ) : Type 0 where
   pub sums : (k : ℕ) → upto m k ≡ upto l k + pick (leb e.span k) g 0 + pick (ltb e.span k) e.width 0

@@ -1,15 +1,11 @@
-use borrow.Author.Rules.{rules}
-use Rattle.lines.proofs.Offsets.{gap_ways}
+use Rattle.lines.proofs.Gaps.{gap_grid, gap_own, gap_half}
 use Rattle.lines.proofs.gap.Goals as goal
 
-pub returns-then-i-eq0 : goal.returns-then-i-eq0
-returns-then-i-eq0 c = search (gap_ways, rules) depth 6
+pub returns-then-char_height-ne0-clause-is : goal.returns-then-char_height-ne0-clause-is
+returns-then-char_height-ne0-clause-is c = gap_grid c.in-Some.is _ c.if-char_height-ne0.true
 
-pub returns-then-char_height-ne0 : goal.returns-then-char_height-ne0
-returns-then-char_height-ne0 c = search (gap_ways, rules) depth 6
+pub returns-in-Some-line_spacing-clause-is : goal.returns-in-Some-line_spacing-clause-is
+returns-in-Some-line_spacing-clause-is c = gap_own c.in-Some.is _ c.if-char_height-ne0.false c.in-Some-line_spacing.is c.from.ensures
 
-pub returns-then-led-eq1 : goal.returns-then-led-eq1
-returns-then-led-eq1 c = search (gap_ways, rules) depth 6
-
-pub returns : goal.returns
-returns c = search (gap_ways, rules) depth 6
+pub returns-in-None-clause-is : goal.returns-in-None-clause-is
+returns-in-None-clause-is c = gap_half c.in-Some.is _ c.if-char_height-ne0.false c.in-None.is c.half_up.ensures.average

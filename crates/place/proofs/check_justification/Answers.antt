@@ -1,14 +1,10 @@
-use Rattle.place.proofs.Laws.{check_start, check_stop, check_on, check_end}
+use mathlib.Core.Path.{◌∙◌, ap}
+use mathlib.Core.Option.{some}
+use Rattle.place.proofs.Laws.{check_stop, check_on}
 use Rattle.place.proofs.check_justification.Goals as goal
 
-pub loop-i-init : goal.loop-i-init
-loop-i-init c = search check_start
-
 pub returns-then-goes_back : goal.returns-then-goes_back
-returns-then-goes_back c = search check_stop
+returns-then-goes_back c = ap some c.refused.ensures ∙ check_stop c.loop-e.invariant c.loop-e-test.true c.goes_back.ensures c.if-goes_back.true
 
-pub loop-i-preserved : goal.loop-i-preserved
-loop-i-preserved c = search check_on
-
-pub returns : goal.returns
-returns c = search check_end
+pub loop-e-preserved : goal.loop-e-preserved
+loop-e-preserved c = check_on c.loop-e.invariant c.loop-e-test.true c.goes_back.ensures c.if-goes_back.false

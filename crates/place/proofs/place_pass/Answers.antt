@@ -1,11 +1,19 @@
-use Rattle.place.proofs.Laws.{pass_empty, pass_back, pass_on}
+use mathlib.Core.Path.{sym}
+use borrow.Author.Tests.{eqb-true}
+use Rattle.std.proofs.lemmas.Result.{err_from_is_err_and}
+use Rattle.place.proofs.Laws.{pass_empty, pass_back, rows_ready, pass_on}
 use Rattle.place.proofs.place_pass.Goals as goal
 
-pub returns-then-n-eq0 : goal.returns-then-n-eq0
-returns-then-n-eq0 c = search pass_empty
+pub returns-then-is_empty : goal.returns-then-is_empty
+returns-then-is_empty c = pass_empty c.requires (eqb-true _ _ (sym c.if-is_empty.ensures))
 
-pub returns-in-Some : goal.returns-in-Some
-returns-in-Some c = search pass_back
+pub returns-in_err-check_justification : goal.returns-in_err-check_justification
+returns-in_err-check_justification c =
+    let p = err_from_is_err_and c.from_residual.result c.from_residual.ensures.1 in
+    rw (p.1, p.2) (pass_back c.in_err-check_justification.ensures)
 
-pub returns-in-None : goal.returns-in-None
-returns-in-None c = search pass_on
+pub place_rows-requires : goal.place_rows-requires
+place_rows-requires c = rows_ready c.link_rows-heads.ensures
+
+pub returns : goal.returns
+returns c = pass_on c.in_ok-check_justification.ensures c.place_rows.ensures

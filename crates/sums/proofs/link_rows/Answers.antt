@@ -1,13 +1,9 @@
-use borrow.Author.Rules.{rules}
-use Rattle.sums.proofs.Chain.{link_start, link_on, link_end}
+use native.Mathlib.Omega.{arith}
+use Rattle.sums.proofs.Chain.{link_start, link_on}
 use Rattle.sums.proofs.link_rows.Goals as goal
 
-pub loop-k-init : goal.loop-k-init
-loop-k-init c = search (link_start, rules)
+pub loop-j-init : goal.loop-j-init
+loop-j-init c = link_start c.requires (omega arith)
 
-pub loop-k-preserved : goal.loop-k-preserved
-loop-k-preserved c = link_on c.loop-k.invariant c.loop-k-test.true c.row_at-r.ensures c.byte_index-line.ensures.0 c.byte_index-line.ensures.1 c.put_cell.ensures
-    c.put_cell-in-loop-k.ensures
-
-pub returns : goal.returns
-returns c = search link_end
+pub loop-j-preserved : goal.loop-j-preserved
+loop-j-preserved c = link_on c.loop-j.invariant (omega arith) (omega arith) c.from-line.ensures (omega arith) c.put_link.ensures c.put_mark.ensures (omega arith)

@@ -1,9 +1,6 @@
-use Prim.Native.Nat.{◌-◌}
+use Rattle.std.proofs.Common.{◌-◌, length}
 use Rattle.sums.proofs.Chain.{Linking}
 use Rattle.sums.proofs.link_rows.Given as goal
 
-abbrev pub invariant-loop-k : goal.invariant-loop-k
-invariant-loop-k l = Linking l.rows l.n l.initial.out l.at l.out l.heads l.k
-
-abbrev pub decreases-loop-k : goal.decreases-loop-k
-decreases-loop-k l = l.n - l.k
+abbrev pub invariant-loop-j : goal.invariant-loop-j
+invariant-loop-j l = Linking l.rows l.out l.heads (length l.rows - l.j)

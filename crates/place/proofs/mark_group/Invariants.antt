@@ -1,8 +1,0 @@
-use Rattle.place.proofs.Groups.{Marking}
-use Rattle.place.proofs.mark_group.Given as goal
-
-abbrev pub invariant-loop-k : goal.invariant-loop-k
-invariant-loop-k l = Marking l.c l.rect l.rows l.n l.initial.out l.at l.heads l.r l.total l.table l.out l.p l.sum l.k
-
-abbrev pub decreases-loop-k : goal.decreases-loop-k
-decreases-loop-k l = l.k
