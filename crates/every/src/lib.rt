@@ -1,14 +1,14 @@
-// Every answer of a message, from one walk over its pages: the answers and their records as rows of numbers in one lent slice.
+// Every answer of a message, from one walk over its pages: the answers in one lent slice, their records in another.
 #![tactic(auto)]
 
-ghost use Rattle.std.specs.Prelude.{◌≡◌, ◌+◌, ◌*◌, ◌≤◌, ◌<◌, length, drop};
-ghost use Rattle.rows.specs.Rows.{row_width, span_at};
-ghost use Rattle.every.specs.Walk.{shown_from, shown_at, ShownRoom, ShownPut, Countable, ShownAs, Opened, WalkAsked, Walkable, Walks, LongRoom, Gathers, listed_by, Settles};
+ghost use Rattle.std.specs.Prelude.{◌≡◌, ◌≤◌, ◌<◌, length};
+ghost use Rattle.every.specs.Walk.{Countable, ShownAs, Opened, WalkAsked, Walks, AllRoom, Gathers, listed_by, Settles};
 
 use layout::Span;
-use pages::{NextPage, PageShown};
+use meter::Call;
+use pages::{PageShown, Pages};
 use refusal::{OptRefusal, Refusal};
-use rows::{ROW_ROOM, SHORT_ROW_ROOM};
+use rows::{BLANK_ROW, ROOM, Row, SHORT_ROOM};
 use sign::SignFile;
 
 // An answer of a listing. kind: 1 on, 2 off; its duration in tenths of a second; the number of its first record, and how many it has.
@@ -36,103 +36,66 @@ pub struct Walked {
     pub refused: Option<Refusal>,
 }
 
-// The numbers of an answer, and where the records begin: there is room for 1,026 answers before them.
-pub const SHOWN_WIDTH: usize = 4;
+// No message has more answers.
+pub const ANSWERS: usize = 1026;
 
-pub const RECORDS: usize = 4104;
-
-// An answer is stored at a place.
-fn put_shown(all: &mut [u16], i: usize, s: Shown)
-    requires { ShownRoom all.old i }
-    ensures { ShownPut all.old i s all.new }
-{
-    let k = SHOWN_WIDTH * i;
-    all[k] = s.kind;
-    all[k + 1] = s.duration;
-    all[k + 2] = s.first;
-    all[k + 3] = s.count;
-}
-
-// The answer that numbers are.
-fn shown_from(n: &[u16]) -> Shown
-    requires { length n.now ≡ 4 }
-    ensures { result ≡ shown_from n.now }
-{
-    Shown {
-        kind: n[0],
-        duration: n[1],
-        first: n[2],
-        count: n[3],
-    }
-}
-
-// The answer at a place.
-pub fn shown_at(all: &[u16], i: usize) -> Shown
-    requires { (i < 1026) × (4104 ≤ length all.now) }
-    ensures { result ≡ shown_at all.now i }
-{
-    let k = SHOWN_WIDTH * i;
-    shown_from(&all[k..k + SHOWN_WIDTH])
-}
-
-// The record at a place.
-pub fn record_at(all: &[u16], i: usize) -> Span
-    requires { (i < 2048) × (4104 + 15 * i + 15 ≤ length all.now) }
-    ensures { result ≡ span_at (drop 4104 all.now) i }
-{
-    rows::span_at(&all[RECORDS..], i)
-}
+// What a slice is filled with until its answers are written.
+pub const BLANK_SHOWN: Shown = Shown {
+    kind: 0,
+    duration: 0,
+    first: 0,
+    count: 0,
+};
 
 // An answer of a page, after n records.
 fn shown_by(x: PageShown, n: usize) -> Shown
     requires { Countable x n }
     ensures { ShownAs x n result }
 {
+    let first = n as u16;
     if x.on {
         return Shown {
             kind: 1,
             duration: x.duration,
-            first: n as u16,
+            first,
             count: x.count as u16,
         };
     }
     Shown {
         kind: 2,
         duration: x.duration,
-        first: n as u16,
+        first,
         count: 0,
     }
 }
 
-// Answer after answer, up to the end or the first refusal: each has the array behind the records of those before.
-fn walk(file: &[u8], table: SignFile, msg: &[u8], rows: &mut [u16], all: &mut [u16]) -> Walked
-    requires { WalkAsked file.now table msg.now rows.old all.old }
-    ensures { Walks file.now table msg.now all.old all.new result }
+// Answer after answer, up to the end or the first refusal: each has the records behind those before.
+fn walk(call: &Call, rows: &mut [Row], shown: &mut [Shown], out: &mut [Span]) -> Walked
+    requires { WalkAsked call.now rows.old shown.old out.old }
+    ensures { Walks call.now shown.new out.new result }
 {
-    let mut p = pages::first(table.config);
-    let mut i: usize = 0;
-    let mut n: usize = 0;
+    let mut pages = Pages::new(call.table.config);
+    let mut answers: usize = 0;
+    let mut records: usize = 0;
     loop {
-        let from = RECORDS + rows::SPAN_WIDTH * n;
-        match pages::next(file, table, msg, p, rows, &mut all[from..]) {
-            NextPage::Page(q, x) => {
-                let s = shown_by(x, n);
-                put_shown(all, i, s);
-                p = q;
-                n += s.count as usize;
-                i += 1;
+        match pages.next(call, rows, &mut out[records..]) {
+            Ok(Some(x)) => {
+                let s = shown_by(x, records);
+                shown[answers] = s;
+                answers += 1;
+                records += usize::from(s.count);
             }
-            NextPage::End => {
+            Ok(None) => {
                 return Walked {
-                    answers: i,
-                    records: n,
+                    answers,
+                    records,
                     refused: None,
                 };
             }
-            NextPage::Refused(r) => {
+            Err(r) => {
                 return Walked {
-                    answers: i,
-                    records: n,
+                    answers,
+                    records,
                     refused: Some(r),
                 };
             }
@@ -141,14 +104,14 @@ fn walk(file: &[u8], table: SignFile, msg: &[u8], rows: &mut [u16], all: &mut [u
 }
 
 // The same, with rows for as many spans as the message can have: one for each of its bytes.
-fn paged<const N: usize>(file: &[u8], table: SignFile, msg: &[u8], all: &mut [u16]) -> Walked
-    requires walkable { Walkable file.now table msg.now all.old }
-    requires rowed { row_width * length msg.now ≤ N }
+fn paged<const N: usize>(call: &Call, shown: &mut [Shown], out: &mut [Span]) -> Walked
+    requires rowed { length call.now.msg.now ≤ N }
     requires fits { N < 65536 }
-    ensures { Walks file.now table msg.now all.old all.new result }
+    requires room { AllRoom call.now.msg.now shown.old out.old }
+    ensures { Walks call.now shown.new out.new result }
 {
-    let mut rows = [0u16; N];
-    walk(file, table, msg, &mut rows, all)
+    let mut rows = [BLANK_ROW; N];
+    walk(call, &mut rows, shown, out)
 }
 
 // The fonts of the sign file, or the refusals before any answer: those of every call, and 4, where too few answers or records are lent.
@@ -159,7 +122,7 @@ fn opened(file: &[u8], msg: &[u8], answers: usize, records: usize) -> Result<Sig
     if let OptRefusal::Some(r) = call.denied {
         return Err(r);
     }
-    if answers < 1026 || records < 2048 {
+    if answers < ANSWERS || records < ROOM {
         return Err(Refusal {
             number: 4,
             start: 0,
@@ -170,11 +133,18 @@ fn opened(file: &[u8], msg: &[u8], answers: usize, records: usize) -> Result<Sig
     Ok(call.table)
 }
 
-// All answers before the first refusal, if there is one, for slices of so many answers and records: answers stand first in the slice, their
-// records from number 4,104 on. The rows of a short message take less of the stack.
-pub fn gather(file: &[u8], msg: &[u8], answers: usize, records: usize, all: &mut [u16]) -> Walked
-    requires { LongRoom msg.now all.old }
-    ensures { Gathers file.now msg.now answers records all.old all.new result }
+// All answers before the first refusal, if there is one, for slices of so many answers and records: they stand first in the slices. The rows of
+// a short message take less of the stack.
+pub fn gather(
+    file: &[u8],
+    msg: &[u8],
+    answers: usize,
+    records: usize,
+    shown: &mut [Shown],
+    out: &mut [Span],
+) -> Walked
+    requires { AllRoom msg.now shown.old out.old }
+    ensures { Gathers file.now msg.now answers records shown.new out.new result }
 {
     match opened(file, msg, answers, records) {
         Err(r) => Walked {
@@ -182,8 +152,13 @@ pub fn gather(file: &[u8], msg: &[u8], answers: usize, records: usize, all: &mut
             records: 0,
             refused: Some(r),
         },
-        Ok(table) if msg.len() <= 256 => paged::<SHORT_ROW_ROOM>(file, table, msg, all),
-        Ok(table) => paged::<ROW_ROOM>(file, table, msg, all),
+        Ok(table) => {
+            let call = Call { file, table, msg };
+            if msg.len() <= 256 {
+                return paged::<SHORT_ROOM>(&call, shown, out);
+            }
+            paged::<ROOM>(&call, shown, out)
+        }
     }
 }
 
@@ -203,16 +178,17 @@ impl Walked {
     }
 }
 
-// The call's answer, with the answers and records that it counts in the slice.
+// The call's answer, with the answers and records that it counts in the slices.
 pub fn counted(
     file: &[u8],
     msg: &[u8],
     answers: usize,
     records: usize,
-    all: &mut [u16],
+    shown: &mut [Shown],
+    out: &mut [Span],
 ) -> Result<Listed, Refusal>
-    requires { LongRoom msg.now all.old }
-    ensures { Settles file.now msg.now answers records all.new result }
+    requires { AllRoom msg.now shown.old out.old }
+    ensures { Settles file.now msg.now answers records shown.new out.new result }
 {
-    gather(file, msg, answers, records, all).counts()
+    gather(file, msg, answers, records, shown, out).counts()
 }
