@@ -9,5 +9,5 @@ returns-in_err-listed g c =
 
 pub returns : goal.returns
 returns g c =
-    listed c.args.file.now c.args.message.now c.args.answers.now c.args.recs.now c.counted.ensures c.in_ok-listed.was c.from.ensures c.write_answers.ensures
-    c.from-2.ensures c.write_records.ensures
+    listed c.args.file.now c.args.message.now c.args.answers.now c.args.recs.now c.counted.ensures c.in_ok-listed.was c.from-n.ensures
+    c.copy_from_slice.ensures.after c.from-k.ensures c.copy_from_slice-2.ensures.after
