@@ -1,59 +1,53 @@
 -- The answers before the one asked, and the checks.
-use Prim.Native.Nat.{ℕ, zero, suc, ◌+◌, ◌-◌, ◌*◌, ◌≤◌, ◌<◌}
+use Rattle.std.specs.Prelude.{Option, Some, None, Result, Ok, Err}
+use Prim.Native.Nat.{ℕ, ◌+◌, ◌-◌, ◌*◌, ◌≤◌, ◌<◌}
 use mathlib.Core.Path.{◌≡◌, refl, sym, ◌∙◌, ap, subst}
 use mathlib.Core.Bool.{Bool, true, false}
-use mathlib.Core.List.{List, [], ◌∷◌}
+use mathlib.Core.List.{List}
 use native.Mathlib.Omega.{arith}
-use native.Mathlib.Numerals.{add-one}
 use native.Mathlib.Nat.{sub-zero}
 use lib.Dec.{ltb}
 use lib.ListN.{length}
-use mir.Val as Val
-use mir.Syntax.{w16}
 use borrow.Author.Tests.{lt-ltb, le-ltb}
 use Rattle.base.specs.Pick.{pick}
 use Rattle.refusal.specs.declared.Refusal.{Refusal}
-use Rattle.refusal.specs.declared.OptRefusal.TheVariants.{Some, None}
+use Rattle.refusal.specs.declared.OptRefusal.TheVariants.{Some as SomeRefusal, None as NoRefusal}
 use Rattle.records.specs.declared.Config.{Config}
 use Rattle.sign.specs.Sign.{Font, Sign, Accepted, sign_file}
-use Rattle.sign.specs.declared.SignFile.{SignFile}
 use Rattle.admit.specs.Admission.{Admission, admission}
 use Rattle.admit.specs.Handed.{handed}
 use Rattle.admit.specs.declared.Admitted.{Admitted}
 use Rattle.admit.proofs.Laws.{Opens, denied_is, opens}
-use Rattle.layout.specs.declared.Span.{Span}
 use Rattle.layout.specs.declared.Answer.{Answer}
 use Rattle.layout.specs.declared.Answer.TheVariants.{On, Off, End, Refused}
 use Rattle.layout.specs.Types.{items, Board}
 use Rattle.refusal.specs.Refusals.{refusal}
 use Rattle.layout.specs.Fonts.{meter_of, board_of}
-use Rattle.layout.specs.Listing.{Page, on, off, refused as refused_page, pages, answer_of, records_of, Result, said, past, numbered, result_on, result}
+use Rattle.layout.specs.Listing.{Page, on, off, pages, answer_of, records_of, Result as Told, said, numbered, result_on, result}
 use Rattle.layout.proofs.Room.{result_room}
-use Rattle.rows.specs.Rows.{spans_of}
+use Rattle.layout.specs.declared.Span.{Span}
+use Rattle.rows.specs.declared.Row.{Row}
+use Rattle.rows.specs.Rows.{SpanRoom, spans_of}
 use Rattle.rows.proofs.Laws.{spans_length}
 use Rattle.counts.specs.declared.Placed.{Placed}
 use Rattle.counts.specs.Placing.{fonts_in, capitals_in, chars_looked, with_counts}
+use Rattle.meter.specs.declared.call.Call.{Call}
+use Rattle.meter.specs.Opened.{AcceptedTable}
 use Rattle.meter.specs.Gauges.{meter_in}
 use Rattle.pages.specs.declared.Pages.{Pages}
 use Rattle.pages.specs.declared.PageShown.{PageShown}
-use Rattle.pages.specs.declared.NextPage.{NextPage}
-use Rattle.pages.specs.declared.NextPage.TheVariants.{Page as NextShown, End as NextNone, Refused as NextRefused}
-use Rattle.pages.specs.Pages.{board_in, Ready, looked_for, first_of, todo, shown_page, next_told, InMessage, weight, IfShown, Advances, NextAsked, NextRead}
+use Rattle.pages.specs.Pages.{board_in, board_of as board_for, Ready, looked_for, first_of, todo, next_told, InMessage, weight, IfShown, Advances, NextRead}
 use Rattle.pages.proofs.Answers.{pages_todo, first_in_law}
-use Rattle.answer.specs.Answer.{written_by, told, bare, on_by, placed_by, Answerable, count_of, RecordRoom, CountsTold, Numbered, Listable, Computed, Answered, Counted, PlacedAs}
+use Rattle.answer.specs.Answer.{written_by, told, bare, on_by, placed_by, count_of, RecordRoom, CountsTold, Numbered, Answered, PlacedAs}
 
 -- ---- an answer of a page
 
 -- as its page says it, on or off
-shown_said : (b : Bool) (d n : ℕ) (l : List ℕ)
+shown_said : (b : Bool) (d n : ℕ) (l : List Span) → SpanRoom n l
     → told (pick b (On d n) (Off d)) l
     ≡ record { answer = answer_of (pick b (on d (spans_of l n)) (off d)); written = records_of (pick b (on d (spans_of l n)) (off d)) }
-shown_said true d n l = rw (spans_length l n)
-shown_said false d n l = refl
-
-shown_past : (b : Bool) (d : ℕ) (rs : List Span) (a : Result) → past (pick b (on d rs) (off d)) a ≡ a
-shown_past true d rs a = refl
-shown_past false d rs a = refl
+shown_said true d n l h = rw (spans_length l n h)
+shown_said false d n l h = refl
 
 -- what an answer of a page says, on or off: b
 module _ (b : Bool) (x : PageShown) where
@@ -74,164 +68,83 @@ module _ (b : Bool) (x : PageShown) where
       go true = h
       go false = omega arith
 
-  shown_counts : (file msg l : List ℕ) → x.looked ≡ looked_for file msg l x.count → CountsTold file msg l so
+  shown_counts : (file msg : List ℕ) (l : List Span) → x.looked ≡ looked_for file msg l x.count → CountsTold file msg l so
   shown_counts file msg l h = go b
     where
       go : (t : Bool) → CountsTold file msg l (pick t (on_by x) (bare (Off x.duration)))
       go true = record { looked = h; spans = refl }
       go false = record { looked = refl; spans = refl }
 
-module _ {n : NextPage} where
-  pub count_fits : {count : ℕ} {p : Pages} {x : PageShown} → Answerable n count → n ≡ NextShown p x → Val.Fits w16 x.count
-  count_fits h q = omega (arith, (subst (IfShown (λ p x. (x.count < 65536) × (x.looked < 65536))) q h.countable).0)
-
-  pub looked_fits : {count : ℕ} {p : Pages} {x : PageShown} → Answerable n count → n ≡ NextShown p x → Val.Fits w16 x.looked
-  looked_fits h q = omega (arith, (subst (IfShown (λ p x. (x.count < 65536) × (x.looked < 65536))) q h.countable).1)
-
-  pub answer_on : (count : ℕ) {p : Pages} {x : PageShown} → n ≡ NextShown p x → x.on ≡ true → on_by x ≡ placed_by n count
-  answer_on count q e = rw (q, e)
-
-  pub answer_off : (count : ℕ) {p : Pages} {x : PageShown} {r : Placed} → n ≡ NextShown p x → x.on ≡ false → r ≡ bare (Off x.duration)
-      → r ≡ placed_by n count
-  answer_off count q e b = rw (q, e) b
-
-  pub answer_end : (count : ℕ) {r : Placed} → n ≡ NextNone → r ≡ bare (End count) → r ≡ placed_by n count
-  answer_end count q b = rw q b
-
-  pub answer_refused : (count : ℕ) {x : Refusal} {r : Placed} → n ≡ NextRefused x → r ≡ bare (Refused x) → r ≡ placed_by n count
-  answer_refused count q b = rw q b
-
 -- ---- the loop
 
 -- where the loop stands: rows₀ and out₀ were there before it
-pub record Stands (file : List ℕ) (table : SignFile) (msg : List ℕ) (number : ℕ) (rows₀ out₀ rows out : List ℕ) (p : Pages) (i : ℕ) : Type 0 where
-  pub ready : Ready file table msg rows₀ out₀
-  pub stands : InMessage table.config (length msg) p
+pub record Stands (call : Call) (number : ℕ) (rows₀ : List Row) (out₀ : List Span) (rows : List Row) (out : List Span) (p : Pages) (i : ℕ) : Type 0 where
+  pub ready : Ready call rows₀ out₀
+  pub stands : InMessage call p
   pub few : i + weight p.page_state ≤ 2 * p.at + 2
   pub reached : i ≤ number
   pub rowed : length rows ≡ length rows₀
   pub room : length out ≡ length out₀
   pub same :
-      numbered i (todo (board_in file msg table.config) msg p) (number - i)
-      ≡ numbered 0 (pages (board_in file msg table.config) (items table.config msg)) number
+      numbered i (todo (board_for call) call.msg.now p) (number - i)
+      ≡ numbered 0 (pages (board_for call) (items call.table.config call.msg.now)) number
 
-pub numbered_start : {file : List ℕ} {table : SignFile} {msg : List ℕ} {number : ℕ} {rows out : List ℕ} {p : Pages}
-    → Ready file table msg rows out → p ≡ first_of table.config → Stands file table msg number rows out rows out p 0
-numbered_start {file} {table} {msg} {number} {rows} {out} {p} r e =
-    let s : Board = board_in file msg table.config in
-    subst (λ (q : Pages). Stands file table msg number rows out rows out q 0) (sym e)
+pub numbered_start : {call : Call} {number : ℕ} {rows : List Row} {out : List Span} {p : Pages}
+    → Ready call rows out → p ≡ first_of call.table.config → Stands call number rows out rows out p 0
+numbered_start {call} {number} {rows} {out} {p} r e =
+    let s : Board = board_for call in
+    subst (λ (q : Pages). Stands call number rows out rows out q 0) (sym e)
     (record {
       ready = r;
-      stands = first_in_law s.config (length msg);
+      stands = first_in_law call;
       few = omega arith;
       reached = omega arith;
       rowed = refl;
       room = refl;
-      same = rw sub-zero (ap (λ (x : List Page). numbered 0 x number) (sym (pages_todo s msg)));
+      same = rw sub-zero (ap (λ (x : List Page). numbered 0 x number) (sym (pages_todo s call.msg.now)));
     })
 
--- one answer less
-less : (i m k : ℕ) (q : Page) (l : List Page) → m ≡ suc k → numbered i (q ∷ l) m ≡ past q (numbered (suc i) l k)
-less i m k q l e = rw e
-
-module _ {file : List ℕ} {table : SignFile} {msg : List ℕ} {number : ℕ} {rows₀ out₀ rows out : List ℕ} {p : Pages} {i : ℕ}
-    (z : Stands file table msg number rows₀ out₀ rows out p i) where
+module _ {call : Call} {number : ℕ} {rows₀ : List Row} {out₀ : List Span} {rows : List Row} {out : List Span} {p : Pages} {i : ℕ}
+    (z : Stands call number rows₀ out₀ rows out p i) where
   abbrev s : Board
-  s = board_in file msg table.config
+  s = board_for call
 
-  abbrev whole : Result
-  whole = numbered 0 (pages s (items s.config msg)) number
-
-  count_small : i < 65536
-  count_small = omega (arith, z.few, z.stands.within, z.ready.small)
-
-  pub numbered_asks : NextAsked file table msg p rows out
-  numbered_asks =
-      let r : Ready file table msg rows₀ out₀ = z.ready in
-      record { ready = record { opened = r.opened; small = r.small; rowed = omega arith; room = omega arith }; stands = z.stands }
-
-  -- t is the next answer
-  module _ {rows' out' : List ℕ} {t : NextPage} (read : NextRead file table msg p rows out rows' out' p.page_state t) where
-    abbrev Tells : Placed → Type 0
-    Tells = Numbered file table msg number out₀ out'
-
-    pub numbered_rowed : length rows' ≡ length rows₀
-    numbered_rowed = read.rowed ∙ z.rowed
-
-    pub numbered_room : length out' ≡ length out₀
-    numbered_room = read.room ∙ z.room
-
-    here : {u : NextPage} → t ≡ u → numbered i (next_told s msg out' u) (number - i) ≡ whole
-    here q = ap (λ (x : List Page). numbered i x (number - i)) (sym (read.ends ∙ ap (next_told s msg out') q)) ∙ z.same
+  -- t is the next answer, and q comes after it
+  module _ {rows' : List Row} {out' : List Span} {q : Pages} {t : Result (Option PageShown) Refusal} (read : NextRead call p rows out q rows' out' t) where
+    here : numbered i (next_told s call.msg.now out' q t) (number - i) ≡ numbered 0 (pages s (items s.config call.msg.now)) number
+    here = ap (λ (x : List Page). numbered i x (number - i)) (sym read.ends) ∙ z.same
 
     -- what is said of an answer that is shown
-    abbrev Goes : NextPage → Type 0
-    Goes = IfShown (Advances file msg out' table.config p.at (weight p.page_state))
+    abbrev Goes : Result (Option PageShown) Refusal → Type 0
+    Goes = IfShown (Advances call out' p.at (weight p.page_state) q)
 
-    goes : {u : NextPage} → t ≡ u → Goes u
-    goes q = subst Goes q read.next
+    asked : (j : ℕ) (u : Result (Option PageShown) Refusal) → Goes u → j ≡ 0
+        → told (placed_by u i).answer out' ≡ numbered i (next_told s call.msg.now out' q u) j
+    asked j (Ok (Some x)) g h =
+        ap (λ (a : Answer). told a out') (shown_answer x.on x)
+        ∙ rw h (shown_said x.on x.duration x.count out' (omega (arith, g.few, read.room, z.room, z.ready.room)))
+    asked j (Ok None) g h = refl
+    asked j (Err x) g h = rw h
 
-    pub numbered_next : {q : Pages} {x : PageShown} → t ≡ NextShown q x → i < number → Stands file table msg number rows₀ out₀ rows' out' q (i + 1)
-    numbered_next {q} {x} c h =
-        let g : Advances file msg out' table.config p.at (weight p.page_state) q x = goes c in
-        record {
-          ready = z.ready;
-          stands = g.stands;
-          few = omega (arith, g.less, z.few);
-          reached = omega arith;
-          rowed = numbered_rowed;
-          room = numbered_room;
-          same =
-              rw (add-one i)
-              (sym (shown_past x.on x.duration (spans_of out' x.count) (numbered (suc i) (todo s msg q) (number - suc i)))
-              ∙ sym (less i (number - i) (number - suc i) (shown_page out' x) (todo s msg q) (omega arith)) ∙ here c);
-        }
+    few : (u : Result (Option PageShown) Refusal) → Goes u → count_of (placed_by u i).answer ≤ length call.msg.now
+    few (Ok (Some x)) g = shown_few x.on x (length call.msg.now) g.few
+    few (Ok None) g = omega arith
+    few (Err x) g = omega arith
 
-    pub numbered_end : {r : Placed} → t ≡ NextNone → r ≡ bare (End i) → Tells r
-    numbered_end c d =
-        subst Tells (sym d) (record { ends = here c; counts = record { looked = refl; spans = refl }; few = omega arith; room = numbered_room })
+    counts : (u : Result (Option PageShown) Refusal) → Goes u → CountsTold call.file.now call.msg.now out' (placed_by u i)
+    counts (Ok (Some x)) g = shown_counts x.on x call.file.now call.msg.now out' g.looked
+    counts (Ok None) g = record { looked = refl; spans = refl }
+    counts (Err x) g = record { looked = refl; spans = refl }
 
-    pub numbered_refused : {x : Refusal} {r : Placed} → t ≡ NextRefused x → r ≡ bare (Refused x) → Tells r
-    numbered_refused {x} c d =
-        subst Tells (sym d)
-        (record { ends = go (number - i) ∙ here c; counts = record { looked = refl; spans = refl }; few = omega arith; room = numbered_room })
-      where
-        go : (j : ℕ) → told (Refused x) out' ≡ numbered i (refused_page x ∷ []) j
-        go zero = refl
-        go (suc j) = refl
-
-    countable : (u : NextPage) → Goes u → IfShown (λ q x. (x.count < 65536) × (x.looked < 65536)) u
-    countable (NextShown q x) g = (omega (arith, g.few, z.ready.small), omega (arith, g.short, z.ready.small))
-    countable NextNone g = tt
-    countable (NextRefused x) g = tt
-
-    pub next_answerable : Answerable t i
-    next_answerable = record { few = count_small; countable = countable t read.next }
-
-    asked : (j : ℕ) (u : NextPage) → j ≡ 0 → told (placed_by u i).answer out' ≡ numbered i (next_told s msg out' u) j
-    asked j (NextShown q x) h =
-        ap (λ (a : Answer). told a out') (shown_answer x.on x) ∙ rw h (shown_said x.on x.duration x.count out')
-    asked j NextNone h = refl
-    asked j (NextRefused x) h = rw h
-
-    few : (u : NextPage) → Goes u → count_of (placed_by u i).answer ≤ length msg
-    few (NextShown q x) g = shown_few x.on x (length msg) g.few
-    few NextNone g = omega arith
-    few (NextRefused x) g = omega arith
-
-    counts : (u : NextPage) → Goes u → CountsTold file msg out' (placed_by u i)
-    counts (NextShown q x) g = shown_counts x.on x file msg out' g.looked
-    counts NextNone g = record { looked = refl; spans = refl }
-    counts (NextRefused x) g = record { looked = refl; spans = refl }
-
-    pub numbered_asked : {r : Placed} → number ≤ i → r ≡ placed_by t i → Tells r
+    pub numbered_asked : {r : Placed} → number ≤ i → r ≡ placed_by t number → Numbered call number out₀ out' r
     numbered_asked h c =
-        subst Tells (sym c)
+        let e : number ≡ i = omega (arith, z.reached) in
+        subst (Numbered call number out₀ out') (sym (c ∙ ap (placed_by t) e))
         (record {
-          ends = asked (number - i) t (omega arith) ∙ here refl;
+          ends = asked (number - i) t read.next (omega arith) ∙ here;
           counts = counts t read.next;
           few = few t read.next;
-          room = numbered_room;
+          room = read.room ∙ z.room;
         })
 
 -- ---- the call
@@ -242,7 +155,8 @@ board_is file msg c fs q = ap (λ (x : Sign). record { config = c; meter = meter
 
 -- x is the answer of `admit`
 module _ (file msg : List ℕ) {x : Admitted} (e : x ≡ handed (admission file msg) (sign_file file)) where
-  pub call_denied : {y : Refusal} → x.denied ≡ Some y → (n room : ℕ) (out : List ℕ) {r : Placed} → r ≡ bare (Refused y) → Answered file msg n room out out r
+  pub call_denied : {y : Refusal} → x.denied ≡ SomeRefusal y → (n room : ℕ) (out : List Span) {r : Placed} → r ≡ bare (Refused y)
+      → Answered file msg n room out out r
   unfolding result
   call_denied h n room out d =
       subst (Answered file msg n room out out) (sym d)
@@ -251,21 +165,24 @@ module _ (file msg : List ℕ) {x : Admitted} (e : x ≡ handed (admission file 
         counts = record { looked = refl; spans = refl };
       })
 
-  module _ (h : x.denied ≡ None) where
-    pub call_listable : {out : List ℕ} → RecordRoom msg out → Listable file x.table msg out
-    call_listable q =
-        let o : Opens file msg x.table = opens file msg e h in
-        record { opened = (o.table, o.accepted); small = o.admits_it.small; room = q o.admits_it.small }
+  module _ (h : x.denied ≡ NoRefusal) where
+    abbrev known : Opens file msg x.table
+    known = opens file msg e h
 
-    module _ (n room : ℕ) (out : List ℕ) where
+    pub call_accepted : AcceptedTable file x.table
+    call_accepted = (known.table, known.accepted)
+
+    pub call_small : length msg ≤ 2048
+    call_small = known.admits_it.small
+
+    module _ (n room : ℕ) (out : List Span) where
       -- what is behind the refusals of every call
       behind : result file msg n room
           ≡ pick (ltb room 1400) (said (Refused (refusal 4 0 0 0))) (numbered 0 (pages (board_in file msg x.table.config) (items x.table.config msg)) n)
       unfolding result
       behind =
-          let o : Opens file msg x.table = opens file msg e h in
-          let after : Board → Result = λ y. pick (ltb room 1400) (said (Refused (refusal 4 0 0 0))) (numbered 0 (pages y (items x.table.config msg)) n) in
-          ap (λ (a : Admission). result_on a msg n room) o.is ∙ sym (ap after (board_is file msg x.table.config o.fs o.admits_it.sign))
+          let after : Board → Told = λ y. pick (ltb room 1400) (said (Refused (refusal 4 0 0 0))) (numbered 0 (pages y (items x.table.config msg)) n) in
+          ap (λ (a : Admission). result_on a msg n room) known.is ∙ sym (ap after (board_is file msg x.table.config known.fs known.admits_it.sign))
 
       pub call_short : {r : Placed} → room < 1400 → r ≡ bare (Refused (refusal 4 0 0 0)) → Answered file msg n room out out r
       call_short g d =
@@ -275,68 +192,53 @@ module _ (file msg : List ℕ) {x : Admitted} (e : x ≡ handed (admission file 
             counts = record { looked = refl; spans = refl };
           })
 
-      pub call_listed : {out' : List ℕ} {r : Placed} → 1400 ≤ room → RecordRoom msg out → Numbered file x.table msg n out out' r
-          → Answered file msg n room out out' r
-      call_listed g q d =
-          let l : Listable file x.table msg out = call_listable q in
+      pub call_listed : {call : Call} {out' : List Span} {r : Placed} → call.file.now ≡ file → call.msg.now ≡ msg → call.table ≡ x.table
+          → 1400 ≤ room → RecordRoom msg out → Numbered call n out out' r → Answered file msg n room out out' r
+      call_listed {call} {out'} {r} a b c g q d =
           record {
-            computed = record { ends = d.ends ∙ sym (behind ∙ rw (le-ltb room 1400 g)); few = omega (arith, l.room, d.few); long = d.room };
-            counts = d.counts;
+            computed =
+                record {
+                  ends =
+                      d.ends ∙ rw (a, b, c) (sym (behind ∙ rw (le-ltb room 1400 g)));
+                  few = omega (arith, q call_small, d.few, ap length b);
+                  long = d.room;
+                };
+            counts = rw (a, b) at d.counts;
           }
 
 -- ---- the count of the records
 
-count_told : (a : Answer) (l : List ℕ) → length (written_by a l) ≡ count_of a
-count_told (On d n) l = spans_length l n
-count_told (Off d) l = refl
-count_told (End n) l = refl
-count_told (Refused r) l = refl
+count_told : (a : Answer) (l : List Span) → SpanRoom (count_of a) l → length (written_by a l) ≡ count_of a
+count_told (On d n) l h = spans_length l n h
+count_told (Off d) l h = refl
+count_told (End n) l h = refl
+count_told (Refused r) l h = refl
 
-none_written : (a : Answer) (l : List ℕ) → spans_of l (count_of a) ≡ written_by a l
-unfolding spans_of
+none_written : (a : Answer) (l : List Span) → spans_of l (count_of a) ≡ written_by a l
 none_written (On d n) l = refl
 none_written (Off d) l = refl
 none_written (End n) l = refl
 none_written (Refused r) l = refl
 
--- a is the answer, l holds its records, n is their count
-module _ {file msg : List ℕ} {number room : ℕ} {out l : List ℕ} {a : Answer} (h : Computed file msg number room out l a) {n : ℕ} (c : n ≡ count_of a) where
-  abbrev x : Result
-  x = result file msg number room
-
-  counted : length x.written ≡ n
-  counted = ap (λ (y : Result). length y.written) (sym h.ends) ∙ count_told a l ∙ sym c
-
-  pub counted_is : Counted file msg number room l (record { answer = a; count = n })
-  counted_is =
-      let r : (length x.written ≤ 1400) × (length x.written ≤ room) = result_room file msg number room in
-      record {
-        answer = ap (λ (y : Result). y.answer) h.ends;
-        records = ap (spans_of l) c ∙ none_written a l ∙ ap (λ (y : Result). y.written) h.ends;
-        most = omega (arith, r.0, counted);
-        few = omega (arith, r.1, counted);
-        long = omega (arith, h.few, h.long, c);
-      }
-
--- p is the answer with its counts
-module _ {file msg : List ℕ} {number room : ℕ} {out l : List ℕ} {p : Placed} (h : Answered file msg number room out l p) where
-  abbrev y : Result
+-- p is the answer with its counts, l holds its records
+module _ {file msg : List ℕ} {number room : ℕ} {out l : List Span} {p : Placed} (h : Answered file msg number room out l p) where
+  abbrev y : Told
   y = result file msg number room
 
   abbrev sign : Sign
   sign = sign_file file
 
   written_is : written_by p.answer l ≡ y.written
-  written_is = ap (λ (x : Result). x.written) h.computed.ends
+  written_is = ap (λ (x : Told). x.written) h.computed.ends
 
   answer_is : p.answer ≡ y.answer
-  answer_is = ap (λ (x : Result). x.answer) h.computed.ends
+  answer_is = ap (λ (x : Told). x.answer) h.computed.ends
 
   looked_is : p.looked ≡ chars_looked sign msg y.written
   looked_is = h.counts.looked ∙ ap (chars_looked sign msg) written_is
 
   spans_are : p.spans ≡ length y.written
-  spans_are = h.counts.spans ∙ sym (count_told p.answer l) ∙ ap length written_is
+  spans_are = h.counts.spans ∙ sym (count_told p.answer l (omega (arith, h.computed.few, h.computed.long))) ∙ ap length written_is
 
   abbrev made : Answer → ℕ → ℕ → Placed
   made x j k = record { answer = x; looked = j; spans = k }
@@ -345,6 +247,14 @@ module _ {file msg : List ℕ} {number room : ℕ} {out l : List ℕ} {p : Place
   same_placed q a b d =
       ap (λ (x : Answer). made x p.looked p.spans) a ∙ ap (λ (k : ℕ). made q.answer k p.spans) b ∙ ap (made q.answer q.looked) d
 
-  pub placed_as : PlacedAs file msg number room l (record { placed = p; count = p.spans })
+  pub placed_as : PlacedAs file msg number room out l p
   placed_as =
-      record { placed = same_placed (with_counts sign msg y) answer_is looked_is spans_are; counted = counted_is h.computed h.counts.spans }
+      let r : (length y.written ≤ 1400) × (length y.written ≤ room) = result_room file msg number room in
+      record {
+        computed = h.computed;
+        placed = same_placed (with_counts sign msg y) answer_is looked_is spans_are;
+        records = ap (spans_of l) h.counts.spans ∙ none_written p.answer l ∙ written_is;
+        most = omega (arith, r.0, spans_are);
+        few = omega (arith, r.1, spans_are);
+        long = omega (arith, h.computed.few, h.computed.long, h.counts.spans);
+      }

@@ -4,7 +4,7 @@ use native.Mathlib.Omega.{arith}
 use native.Mathlib.Nat.{add-zero, zero-add}
 use mathlib.Core.Path.{◌≡◌, refl, sym, ◌∙◌, ap, subst}
 use mathlib.Core.Bool.{Bool, true, false}
-use mathlib.Core.Option.{Option, none, some}
+use Rattle.std.specs.Prelude.{Option, Some, None, Ok, Err}
 use mathlib.Core.List.{List, [], ◌∷◌, ◌++◌, append_assoc}
 use lib.Dec.{ltb, eqb}
 use lib.ListN.{length, get_or, take, drop, length-append, length-drop}
@@ -23,10 +23,10 @@ use Rattle.layout.specs.Fonts.{board_of}
 use Rattle.layout.specs.Listing.{Page, on, off, refused, pages, Result, said, numbered, result_on, result, listing, after}
 use Rattle.layout.specs.Demand.{Shows, counted_records, listed}
 use Rattle.every.specs.declared.Shown.{Shown}
-use Rattle.every.specs.declared.Counts.TheVariants.{Listed, Refused}
-use Rattle.every.specs.All.{shown, answers_in, records_in, refusal_in, Gathered, none_but, gather, gathered_on, gathered, counts_of, unless_refused, over, listing_all, answers_after, records_after}
+use Rattle.every.specs.declared.Listed.{Listed}
+use Rattle.every.specs.All.{shown, answers_in, records_in, refusal_in, Gathered, none_but, gather, gathered_on, gathered, listed_as, counts_of, unless_refused, over, listing_all, answers_after, records_after}
 use Rattle.every.specs.Calls.{answer_told, records_told, answer_at, Roomy, AsCalled, FirstRefused, WholeListing}
-use Rattle.every.proofs.Laws.{Fits, gathered_fits}
+use Rattle.every.proofs.Laws.{counts_listed, counts_refused, Fits, gathered_fits}
 
 -- ---- answers of a list of pages
 
@@ -54,7 +54,7 @@ tells_at c k (off d ∷ l) xs (suc n) e h =
 tells_at c k (refused r ∷ l) xs n e h = absurd (omega arith)
 
 -- after the answers: the end, or the refusal
-last_end : (c : ℕ) (l : List Page) → refusal_in l ≡ none → (k : ℕ) → (numbered c l (length (answers_in k l))).answer ≡ End (c + length (answers_in k l))
+last_end : (c : ℕ) (l : List Page) → refusal_in l ≡ None → (k : ℕ) → (numbered c l (length (answers_in k l))).answer ≡ End (c + length (answers_in k l))
 last_end c [] e k = ap End (sym (add-zero c))
 last_end c (on d rs ∷ l) e k =
     last_end (suc c) l e (k + length rs)
@@ -63,7 +63,7 @@ last_end c (off d ∷ l) e k =
     last_end (suc c) l e k ∙ ap End (let q : suc c + length (answers_in k l) ≡ c + suc (length (answers_in k l)) = omega arith in q)
 last_end c (refused r ∷ l) e k = absurd (let z : ◌≡◌ {A = ℕ} 0 1 = cc in omega arith)
 
-last_refused : (x : Refusal) (c : ℕ) (l : List Page) → refusal_in l ≡ some x → (k : ℕ) → (numbered c l (length (answers_in k l))).answer ≡ RefusedAnswer x
+last_refused : (x : Refusal) (c : ℕ) (l : List Page) → refusal_in l ≡ Some x → (k : ℕ) → (numbered c l (length (answers_in k l))).answer ≡ RefusedAnswer x
 last_refused x c [] e k = absurd (let z : ◌≡◌ {A = ℕ} 0 1 = cc in omega arith)
 last_refused x c (on d rs ∷ l) e k = last_refused x (suc c) l e (k + length rs)
 last_refused x c (off d ∷ l) e k = last_refused x (suc c) l e k
@@ -176,7 +176,7 @@ module _ (file msg : List ℕ) (c : Config) (fs : List Font) (acc : admission fi
 
   -- the slices after the call: their first elements are the answers and records of the pages
   module _ (answers : List Shown) (recs : List Span) (ys : List Shown) (zs : List Span) (p : answers ≡ over (answers_in 0 ps) ys)
-      (q : recs ≡ over (records_in ps) zs) (e : refusal_in ps ≡ none) where
+      (q : recs ≡ over (records_in ps) zs) (e : refusal_in ps ≡ None) where
     abbrev N : ℕ
     N = length (answers_in 0 ps)
 
@@ -235,33 +235,25 @@ module _ (file msg : List ℕ) (ys : List Shown) (zs : List Span) where
 
   -- what was listed, and that no refusal came
   record Ended (N K : ℕ) : Type 0 where
-    fine : g.refusal ≡ none
+    fine : g.refusal ≡ None
     answers : length g.answers ≡ N
     records : length g.records ≡ K
 
-  ended_on : (o : Option Refusal) (a k N K : ℕ) → counts_of o a k ≡ Listed N K → (o ≡ none) × (a ≡ N) × (k ≡ K)
-  ended_on none a k N K e = (refl, cc, cc)
-  ended_on (some x) a k N K e = absurd (let z : ◌≡◌ {A = ℕ} 0 1 = cc in omega arith)
-
-  ended : (N K : ℕ) → listing_all file msg ys zs ≡ Listed N K → Ended N K
+  ended : (N K : ℕ) → listing_all file msg ys zs ≡ Ok (listed_as N K) → Ended N K
   ended N K e =
-      let h : (g.refusal ≡ none) × (length g.answers ≡ N) × (length g.records ≡ K) =
-      ended_on g.refusal (length g.answers) (length g.records) N K (sym counts_is ∙ e) in
-      record { fine = h.0; answers = h.1; records = h.2 }
+      let h : (g.refusal ≡ None) × (listed_as (length g.answers) (length g.records) ≡ listed_as N K) =
+      counts_listed g.refusal (length g.answers) (length g.records) (sym counts_is ∙ e) in
+      record { fine = h.0; answers = ap (λ (n : Listed). n.answers) h.1; records = ap (λ (n : Listed). n.records) h.1 }
 
-  stopped_on : (o : Option Refusal) (a k : ℕ) (x : Refusal) → counts_of o a k ≡ Refused x → o ≡ some x
-  stopped_on none a k x e = absurd (let z : ◌≡◌ {A = ℕ} 0 1 = cc in omega arith)
-  stopped_on (some r) a k x e = cc
-
-  stopped : (x : Refusal) → listing_all file msg ys zs ≡ Refused x → g.refusal ≡ some x
-  stopped x e = stopped_on g.refusal (length g.answers) (length g.records) x (sym counts_is ∙ e)
+  stopped : (x : Refusal) → listing_all file msg ys zs ≡ Err x → g.refusal ≡ Some x
+  stopped x e = counts_refused g.refusal (length g.answers) (length g.records) (sym counts_is ∙ e)
 
   calls_on : (N K : ℕ) → Ended N K → Ways file msg (length ys) (length zs) g → AsCalled file msg (answers_after file msg ys zs) (records_after file msg ys zs) N K
   calls_on N K e (early x p f) =
-      absurd (let q : none ≡ some x = sym e.fine ∙ ap (λ (y : Gathered). y.refusal) p in let z : ◌≡◌ {A = ℕ} 0 1 = cc in omega arith)
+      absurd (let q : None ≡ Some x = sym e.fine ∙ ap (λ (y : Gathered). y.refusal) p in let z : ◌≡◌ {A = ℕ} 0 1 = cc in omega arith)
   calls_on N K e (walked c fs acc p) =
       let l : List Page = pages (board_of msg c fs) (items c msg) in
-      let o : refusal_in l ≡ none = sym (ap (λ (y : Gathered). y.refusal) p) ∙ e.fine in
+      let o : refusal_in l ≡ None = sym (ap (λ (y : Gathered). y.refusal) p) ∙ e.fine in
       let u : answers_after file msg ys zs ≡ over (answers_in 0 l) ys =
       answers_is ∙ ap (λ (r : Option Refusal). over (unless_refused r g.answers) ys) e.fine ∙ ap (λ (y : Gathered). over y.answers ys) p in
       let v : records_after file msg ys zs ≡ over (records_in l) zs =
@@ -272,10 +264,10 @@ module _ (file msg : List ℕ) (ys : List Shown) (zs : List Span) where
       (ap (λ (y : Gathered). length y.records) (sym p) ∙ e.records)
       (as_called file msg c fs acc (answers_after file msg ys zs) (records_after file msg ys zs) ys zs u v o))
 
-  refused_on : (x : Refusal) → g.refusal ≡ some x → 1026 ≤ length ys → 2048 ≤ length zs → (lent : ℕ → List Span) → Roomy lent
+  refused_on : (x : Refusal) → g.refusal ≡ Some x → 1026 ≤ length ys → 2048 ≤ length zs → (lent : ℕ → List Span) → Roomy lent
       → Ways file msg (length ys) (length zs) g → FirstRefused file msg lent x
   refused_on x e h j lent r (early y p f) =
-      let q : some y ≡ some x = sym (ap (λ (z : Gathered). z.refusal) p) ∙ e in
+      let q : Some y ≡ Some x = sym (ap (λ (z : Gathered). z.refusal) p) ∙ e in
       let q' : y ≡ x = cc in
       record {
         at = 0;

@@ -1,6 +1,5 @@
 -- A whole message in one call (docs/DECISIONS.md): all answers of a listing, made of the same `pages` that `listing` and `after` are made of.
-use Rattle.std.specs.Prelude.{ℕ, ◌+◌, List, [], ◌∷◌, ◌++◌, ltb, length, drop}
-use Rattle.std.proofs.Math.Option.{Option, none, some}
+use Rattle.std.specs.Prelude.{ℕ, ◌+◌, List, [], ◌∷◌, ◌++◌, ltb, length, drop, Option, Some, None, Result, Ok, Err}
 use Rattle.base.specs.Pick.{pick}
 use Rattle.refusal.specs.declared.Refusal.{Refusal}
 use Rattle.refusal.specs.Refusals.{refusal}
@@ -10,8 +9,7 @@ use Rattle.layout.specs.Types.{items}
 use Rattle.layout.specs.Fonts.{board_of}
 use Rattle.layout.specs.Listing.{Page, on, off, refused, pages}
 use Rattle.every.specs.declared.Shown.{Shown}
-use Rattle.every.specs.declared.Counts.{Counts}
-use Rattle.every.specs.declared.Counts.TheVariants.{Listed, Refused}
+use Rattle.every.specs.declared.Listed.{Listed}
 
 -- ---- the answers of a message before its first refusal
 
@@ -35,10 +33,10 @@ records_in (refused r ∷ l) = []
 
 -- the first refusal
 abbrev pub refusal_in : List Page → Option Refusal
-refusal_in [] = none
+refusal_in [] = None
 refusal_in (on d rs ∷ l) = refusal_in l
 refusal_in (off d ∷ l) = refusal_in l
-refusal_in (refused r ∷ l) = some r
+refusal_in (refused r ∷ l) = Some r
 
 -- ---- the call
 
@@ -49,7 +47,7 @@ pub record Gathered : Type 0 where
   pub refusal : Option Refusal
 
 abbrev pub none_but : Refusal → Gathered
-none_but r = record { answers = []; records = []; refusal = some r }
+none_but r = record { answers = []; records = []; refusal = Some r }
 
 abbrev pub gather : List Page → Gathered
 gather l = record { answers = answers_in 0 l; records = records_in l; refusal = refusal_in l }
@@ -67,21 +65,24 @@ unfoldable pub gathered : List ℕ → List ℕ → ℕ → ℕ → Gathered
 gathered file msg a k = gathered_on (admission file msg) msg a k
 
 -- "the counts of answers and of records, or the first refusal of the listing"
-abbrev pub counts_of : Option Refusal → ℕ → ℕ → Counts
-counts_of none a k = Listed a k
-counts_of (some r) a k = Refused r
+abbrev pub listed_as : ℕ → ℕ → Listed
+listed_as a k = record { answers = a; records = k }
+
+abbrev pub counts_of : Option Refusal → ℕ → ℕ → Result Listed Refusal
+counts_of None a k = Ok (listed_as a k)
+counts_of (Some r) a k = Err r
 
 -- "A refusal changes nothing in either slice"
 abbrev pub unless_refused : {A : Type 0} → Option Refusal → List A → List A
-unless_refused none l = l
-unless_refused (some r) l = []
+unless_refused None l = l
+unless_refused (Some r) l = []
 
 -- "what is past the counts stays"
 abbrev pub over : {A : Type 0} → List A → List A → List A
 over l lent = l ++ drop (length l) lent
 
 -- the answer of the call on a lent slice of answers and one of records
-unfoldable pub listing_all : List ℕ → List ℕ → List Shown → List Span → Counts
+unfoldable pub listing_all : List ℕ → List ℕ → List Shown → List Span → Result Listed Refusal
 listing_all file msg answers recs =
     let g : Gathered = gathered file msg (length answers) (length recs) in
     counts_of g.refusal (length g.answers) (length g.records)

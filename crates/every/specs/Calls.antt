@@ -1,6 +1,6 @@
 -- The whole listing and the listing calls one by one: the same answers, the same records, the same refusal. So what demand 3 says of `listed` it says of
 -- the records of the whole listing too.
-use Rattle.std.specs.Prelude.{ℕ, ◌≤◌, ◌<◌, ◌≡◌, List, eqb, length, get_or, take, drop}
+use Rattle.std.specs.Prelude.{ℕ, ◌≤◌, ◌<◌, ◌≡◌, List, eqb, length, get_or, take, drop, Ok, Err}
 use Rattle.base.specs.Pick.{pick}
 use Rattle.refusal.specs.declared.Refusal.{Refusal}
 use Rattle.layout.specs.declared.Span.{Span}
@@ -9,8 +9,7 @@ use Rattle.layout.specs.declared.Answer.TheVariants.{On, Off, Refused as Refused
 use Rattle.layout.specs.Listing.{listing, after}
 use Rattle.layout.specs.Demand.{Shows, Whole, listed}
 use Rattle.every.specs.declared.Shown.{Shown}
-use Rattle.every.specs.declared.Counts.TheVariants.{Listed, Refused}
-use Rattle.every.specs.All.{shown, over, listing_all, answers_after, records_after}
+use Rattle.every.specs.All.{shown, over, listed_as, listing_all, answers_after, records_after}
 
 -- an answer of the slice as a call gives it: on is 1
 abbrev pub answer_told : Shown → Answer
@@ -46,15 +45,15 @@ pub record FirstRefused (file msg : List ℕ) (lent : ℕ → List Span) (x : Re
   pub refuses : listing file msg at (lent at) ≡ RefusedAnswer x
 
 pub record WholeListing (file msg : List ℕ) (answers : List Shown) (recs : List Span) : Type 0 where
-  pub as_called : (N K : ℕ) → listing_all file msg answers recs ≡ Listed N K
+  pub as_called : (N K : ℕ) → listing_all file msg answers recs ≡ Ok (listed_as N K)
       → AsCalled file msg (answers_after file msg answers recs) (records_after file msg answers recs) N K
   -- no listing needs more room
-  pub few : (N K : ℕ) → listing_all file msg answers recs ≡ Listed N K → (N ≤ 1026) × (K ≤ 2048)
+  pub few : (N K : ℕ) → listing_all file msg answers recs ≡ Ok (listed_as N K) → (N ≤ 1026) × (K ≤ 2048)
   -- "A refusal changes nothing in either slice"
-  pub unchanged : (x : Refusal) → listing_all file msg answers recs ≡ Refused x
+  pub unchanged : (x : Refusal) → listing_all file msg answers recs ≡ Err x
       → (answers_after file msg answers recs ≡ answers) × (records_after file msg answers recs ≡ recs)
   -- it is the first refusal of the listing, where the slices are long enough
-  pub first_refused : (x : Refusal) → listing_all file msg answers recs ≡ Refused x → 1026 ≤ length answers → 2048 ≤ length recs
+  pub first_refused : (x : Refusal) → listing_all file msg answers recs ≡ Err x → 1026 ≤ length answers → 2048 ≤ length recs
       → (lent : ℕ → List Span) → Roomy lent → FirstRefused file msg lent x
   pub keeps_answers : length (answers_after file msg answers recs) ≡ length answers
   pub keeps_records : length (records_after file msg answers recs) ≡ length recs

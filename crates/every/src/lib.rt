@@ -1,15 +1,14 @@
-// Every answer of a message, from one walk over its pages: the answers and their records as rows of numbers in one lent slice.
+// Every answer of a message, from one walk over its pages: the answers in one lent slice, their records in another.
 #![tactic(auto)]
 
-ghost use Rattle.std.specs.Prelude.{◌≡◌, ◌+◌, ◌*◌, ◌≤◌, ◌<◌, length, drop};
-ghost use Rattle.std.proofs.Math.Option.{none, some};
-ghost use Rattle.refusal.specs.Refusals.{refusal as refusal_of};
-ghost use Rattle.rows.specs.Rows.{span_at};
-ghost use Rattle.every.specs.Walk.{shown_from, shown_at, ShownRoom, ShownPut, Countable, ShownAs, walked_to, WalkAsked, Walkable, Walks, WalksWith, LongRoom, Gathers, settled_by, Settles};
+ghost use Rattle.std.specs.Prelude.{◌≡◌, ◌≤◌, ◌<◌, length};
+ghost use Rattle.every.specs.Walk.{Countable, ShownAs, Opened, WalkAsked, Walks, AllRoom, Gathers, listed_by, Settles};
 
 use layout::Span;
-use pages::{NextPage, PageShown};
+use meter::Call;
+use pages::{PageShown, Pages};
 use refusal::{OptRefusal, Refusal};
+use rows::{BLANK_ROW, ROOM, Row, SHORT_ROOM};
 use sign::SignFile;
 
 // An answer of a listing. kind: 1 on, 2 off; its duration in tenths of a second; the number of its first record, and how many it has.
@@ -22,11 +21,11 @@ pub struct Shown {
     pub count: u16,
 }
 
-// The counts of answers and of records, or the first refusal.
+// The counts of answers and of records.
 #[derive(Clone, Copy)]
-pub enum Counts {
-    Listed(u16, u16),
-    Refused(Refusal),
+pub struct Listed {
+    pub answers: u16,
+    pub records: u16,
 }
 
 // What a walk has shown: how many answers and records, and the refusal that ended it, if any.
@@ -34,219 +33,162 @@ pub enum Counts {
 pub struct Walked {
     pub answers: usize,
     pub records: usize,
-    pub refused: OptRefusal,
+    pub refused: Option<Refusal>,
 }
 
-// The numbers of an answer, and where the records begin: there is room for 1,026 answers before them.
-pub const SHOWN_WIDTH: usize = 4;
+// No message has more answers.
+pub const ANSWERS: usize = 1026;
 
-pub const RECORDS: usize = 4104;
-
-// An answer is stored at a place.
-fn put_shown(all: &mut [u16], i: usize, s: Shown)
-    requires { ShownRoom all.old i }
-    ensures { ShownPut all.old i s all.new }
-{
-    let k = SHOWN_WIDTH * i;
-    all[k] = s.kind;
-    all[k + 1] = s.duration;
-    all[k + 2] = s.first;
-    all[k + 3] = s.count;
-}
-
-// The answer that numbers are.
-fn shown_from(n: &[u16]) -> Shown
-    requires { length n.now ≡ 4 }
-    ensures { result ≡ shown_from n.now }
-{
-    Shown {
-        kind: n[0],
-        duration: n[1],
-        first: n[2],
-        count: n[3],
-    }
-}
-
-// The answer at a place.
-pub fn shown_at(all: &[u16], i: usize) -> Shown
-    requires { (i < 1026) × (4104 ≤ length all.now) }
-    ensures { result ≡ shown_at all.now i }
-{
-    let k = SHOWN_WIDTH * i;
-    shown_from(&all[k..k + SHOWN_WIDTH])
-}
-
-// The record at a place.
-pub fn record_at(all: &[u16], i: usize) -> Span
-    requires { (i < 2048) × (4104 + 15 * i + 15 ≤ length all.now) }
-    ensures { result ≡ span_at (drop 4104 all.now) i }
-{
-    rows::span_at(&all[RECORDS..], i)
-}
+// What a slice is filled with until its answers are written.
+pub const BLANK_SHOWN: Shown = Shown {
+    kind: 0,
+    duration: 0,
+    first: 0,
+    count: 0,
+};
 
 // An answer of a page, after n records.
 fn shown_by(x: PageShown, n: usize) -> Shown
     requires { Countable x n }
     ensures { ShownAs x n result }
 {
+    let first = n as u16;
     if x.on {
         return Shown {
             kind: 1,
             duration: x.duration,
-            first: n as u16,
+            first,
             count: x.count as u16,
         };
     }
     Shown {
         kind: 2,
         duration: x.duration,
-        first: n as u16,
+        first,
         count: 0,
     }
 }
 
-// What was walked: to the end, and to a refusal.
-fn ended(answers: usize, records: usize) -> Walked
-    ensures { result ≡ walked_to answers records none }
+// Answer after answer, up to the end or the first refusal: each has the records behind those before.
+fn walk(call: &Call, rows: &mut [Row], shown: &mut [Shown], out: &mut [Span]) -> Walked
+    requires { WalkAsked call.now rows.old shown.old out.old }
+    ensures { Walks call.now shown.new out.new result }
 {
-    Walked {
-        answers,
-        records,
-        refused: OptRefusal::None,
-    }
-}
-
-fn stopped(answers: usize, records: usize, r: Refusal) -> Walked
-    ensures { result ≡ walked_to answers records (some r) }
-{
-    Walked {
-        answers,
-        records,
-        refused: OptRefusal::Some(r),
-    }
-}
-
-// 4: too few answers or records are lent.
-fn no_room() -> Walked
-    ensures { result ≡ walked_to 0 0 (some (refusal_of 4 0 0 0)) }
-{
-    let r = Refusal {
-        number: 4,
-        start: 0,
-        length: 0,
-        detail: 0,
-    };
-    stopped(0, 0, r)
-}
-
-// Answer after answer, up to the end or the first refusal: each has the array behind the records of those before.
-fn walk(file: &[u8], table: SignFile, msg: &[u8], rows: &mut [u16], all: &mut [u16]) -> Walked
-    requires { WalkAsked file.now table msg.now rows.old all.old }
-    ensures { Walks file.now table msg.now all.old all.new result }
-{
-    let mut p = pages::first(table.config);
-    let mut i: usize = 0;
-    let mut n: usize = 0;
+    let mut pages = Pages::new(call.table.config);
+    let mut answers: usize = 0;
+    let mut records: usize = 0;
     loop {
-        let from = RECORDS + rows::SPAN_WIDTH * n;
-        match pages::next(file, table, msg, p, rows, &mut all[from..]) {
-            NextPage::Page(q, x) => {
-                let s = shown_by(x, n);
-                put_shown(all, i, s);
-                p = q;
-                n += s.count as usize;
-                i += 1;
+        match pages.next(call, rows, &mut out[records..]) {
+            Ok(Some(x)) => {
+                let s = shown_by(x, records);
+                shown[answers] = s;
+                answers += 1;
+                records += usize::from(s.count);
             }
-            NextPage::End => {
-                return ended(i, n);
+            Ok(None) => {
+                return Walked {
+                    answers,
+                    records,
+                    refused: None,
+                };
             }
-            NextPage::Refused(r) => {
-                return stopped(i, n, r);
+            Err(r) => {
+                return Walked {
+                    answers,
+                    records,
+                    refused: Some(r),
+                };
             }
         }
     }
 }
 
 // The same, with rows for as many spans as the message can have: one for each of its bytes.
-fn paged(file: &[u8], table: SignFile, msg: &[u8], all: &mut [u16]) -> Walked
-    requires { Walkable file.now table msg.now all.old }
-    ensures { Walks file.now table msg.now all.old all.new result }
+fn paged<const N: usize>(call: &Call, shown: &mut [Shown], out: &mut [Span]) -> Walked
+    requires rowed { length call.now.msg.now ≤ N }
+    requires fits { N < 65536 }
+    requires room { AllRoom call.now.msg.now shown.old out.old }
+    ensures { Walks call.now shown.new out.new result }
 {
-    if msg.len() <= 256 {
-        let mut few = [0u16; rows::SHORT_ROW_ROOM];
-        return walk(file, table, msg, &mut few, all);
-    }
-    let mut rows = [0u16; rows::ROW_ROOM];
-    walk(file, table, msg, &mut rows, all)
+    let mut rows = [BLANK_ROW; N];
+    walk(call, &mut rows, shown, out)
 }
 
-// 4, the call's own refusal, and the walk: sign file and message are admitted.
-fn with_room(
+// The fonts of the sign file, or the refusals before any answer: those of every call, and 4, where too few answers or records are lent.
+fn opened(file: &[u8], msg: &[u8], answers: usize, records: usize) -> Result<SignFile, Refusal>
+    ensures { Opened file.now msg.now answers records result }
+{
+    let call = admit::admit(file, msg);
+    if let OptRefusal::Some(r) = call.denied {
+        return Err(r);
+    }
+    if answers < ANSWERS || records < ROOM {
+        return Err(Refusal {
+            number: 4,
+            start: 0,
+            length: 0,
+            detail: 0,
+        });
+    }
+    Ok(call.table)
+}
+
+// All answers before the first refusal, if there is one, for slices of so many answers and records: they stand first in the slices. The rows of
+// a short message take less of the stack.
+pub fn gather(
     file: &[u8],
-    table: SignFile,
     msg: &[u8],
     answers: usize,
     records: usize,
-    all: &mut [u16],
+    shown: &mut [Shown],
+    out: &mut [Span],
 ) -> Walked
-    requires { Walkable file.now table msg.now all.old }
-    ensures { WalksWith file.now table msg.now answers records all.old all.new result }
+    requires { AllRoom msg.now shown.old out.old }
+    ensures { Gathers file.now msg.now answers records shown.new out.new result }
 {
-    if answers < 1026 {
-        return no_room();
-    }
-    if records < 2048 {
-        return no_room();
-    }
-    paged(file, table, msg, all)
-}
-
-// All answers before the first refusal, if there is one, for slices of so many answers and records: answers stand first in the slice, their
-// records from number 4,104 on.
-pub fn gather(file: &[u8], msg: &[u8], answers: usize, records: usize, all: &mut [u16]) -> Walked
-    requires { LongRoom msg.now all.old }
-    ensures { Gathers file.now msg.now answers records all.old all.new result }
-{
-    let call = admit::admit(file, msg);
-    let denied = call.denied;
-    match denied {
-        OptRefusal::Some(r) => stopped(0, 0, r),
-        OptRefusal::None => with_room(file, call.table, msg, answers, records, all),
-    }
-}
-
-// The answer of the call, and how many answers and records it writes: none where it is a refusal.
-#[derive(Clone, Copy)]
-pub struct AllCount {
-    pub counts: Counts,
-    pub answers: usize,
-    pub records: usize,
-}
-
-fn settled(w: Walked) -> AllCount
-    requires { (w.answers < 65536) × (w.records < 65536) }
-    ensures { result ≡ settled_by w }
-{
-    let refused = w.refused;
-    match refused {
-        OptRefusal::Some(r) => AllCount {
-            counts: Counts::Refused(r),
+    match opened(file, msg, answers, records) {
+        Err(r) => Walked {
             answers: 0,
             records: 0,
+            refused: Some(r),
         },
-        OptRefusal::None => AllCount {
-            counts: Counts::Listed(w.answers as u16, w.records as u16),
-            answers: w.answers,
-            records: w.records,
-        },
+        Ok(table) => {
+            let call = Call { file, table, msg };
+            if msg.len() <= 256 {
+                return paged::<SHORT_ROOM>(&call, shown, out);
+            }
+            paged::<ROOM>(&call, shown, out)
+        }
     }
 }
 
-// The call's answer, with what it writes in the slice.
-pub fn counted(file: &[u8], msg: &[u8], answers: usize, records: usize, all: &mut [u16]) -> AllCount
-    requires { LongRoom msg.now all.old }
-    ensures { Settles file.now msg.now answers records all.old all.new result }
+impl Walked {
+    // The counts of what was walked, or the refusal that ended it.
+    fn counts(self) -> Result<Listed, Refusal>
+        requires { (self.answers < 65536) × (self.records < 65536) }
+        ensures { result ≡ listed_by self }
+    {
+        match self.refused {
+            Some(r) => Err(r),
+            None => Ok(Listed {
+                answers: self.answers as u16,
+                records: self.records as u16,
+            }),
+        }
+    }
+}
+
+// The call's answer, with the answers and records that it counts in the slices.
+pub fn counted(
+    file: &[u8],
+    msg: &[u8],
+    answers: usize,
+    records: usize,
+    shown: &mut [Shown],
+    out: &mut [Span],
+) -> Result<Listed, Refusal>
+    requires { AllRoom msg.now shown.old out.old }
+    ensures { Settles file.now msg.now answers records shown.new out.new result }
 {
-    let w = gather(file, msg, answers, records, all);
-    settled(w)
+    gather(file, msg, answers, records, shown, out).counts()
 }

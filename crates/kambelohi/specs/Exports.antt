@@ -1,5 +1,5 @@
 -- The numbers of each answer, as C has them.
-use Rattle.std.specs.Prelude.{ℕ, List, [], ◌∷◌}
+use Rattle.std.specs.Prelude.{ℕ, List, [], ◌∷◌, Result, Ok, Err}
 use Rattle.numbers.specs.Numbers.{numbers_of}
 use Rattle.reading.specs.declared.Reading.{Reading}
 use Rattle.reading.specs.declared.Reading.TheVariants.{Slice, End, Refused}
@@ -10,8 +10,7 @@ use Rattle.layout.specs.declared.Answer.TheVariants.{On, Off, End as LastEnd, Re
 use Rattle.kambelohi.specs.declared.ListAnswer.{ListAnswer}
 use Rattle.counts.specs.declared.Placed.{Placed}
 use Rattle.kambelohi.specs.declared.PlaceAnswer.{PlaceAnswer}
-use Rattle.every.specs.declared.Counts.{Counts}
-use Rattle.every.specs.declared.Counts.TheVariants.{Listed, Refused as RefusedAll}
+use Rattle.every.specs.declared.Listed.{Listed}
 use Rattle.kambelohi.specs.declared.ListAllAnswer.{ListAllAnswer}
 use Rattle.sentence.specs.declared.Told.{Told}
 use Rattle.sentence.specs.declared.Told.TheVariants.{Length, Refused as RefusedTo}
@@ -54,9 +53,9 @@ abbrev pub place_answer : Placed → PlaceAnswer
 place_answer p = place_by p.answer p.looked p.spans
 
 -- a whole listing is 1, a refusal 2
-abbrev pub list_all_answer : Counts → ListAllAnswer
-list_all_answer (Listed a k) = record { kind = 1; answers = a; records = k; number = 0; start = 0; length = 0; detail = 0 }
-list_all_answer (RefusedAll f) = record { kind = 2; answers = 0; records = 0; number = f.number; start = f.start; length = f.length; detail = f.detail }
+abbrev pub list_all_answer : Result Listed Refusal → ListAllAnswer
+list_all_answer (Ok n) = record { kind = 1; answers = n.answers; records = n.records; number = 0; start = 0; length = 0; detail = 0 }
+list_all_answer (Err f) = record { kind = 2; answers = 0; records = 0; number = f.number; start = f.start; length = f.length; detail = f.detail }
 
 -- a sentence is 1, a refusal 2
 abbrev pub sentence_answer : Told → SentenceAnswer

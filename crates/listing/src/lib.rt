@@ -1,94 +1,45 @@
 // The listing call, and the placing call, which also gives the counts of a page: they write the records of an answer to the lent slice.
 #![tactic(auto)]
 
-ghost use Rattle.std.specs.Prelude.{◌≡◌, length};
+ghost use Rattle.std.specs.Prelude.{◌≡◌, ◌≤◌, ◌<◌, length};
 ghost use Rattle.layout.specs.Listing.{listing, after};
 ghost use Rattle.counts.specs.Placing.{placing};
-ghost use Rattle.listing.specs.Overwrite.{Short, Writable, overwrite};
 
 use counts::Placed;
 use layout::{Answer, Span};
+use rows::{BLANK_SPAN, ROOM, SHORT_ROOM};
 
-// The first n spans of a slice of numbers go to the lent slice; what it has past them stays.
-fn write_rows(recs: &mut [Span], out: &[u16], n: usize)
-    requires { Writable out.now n (length recs.old) }
-    ensures { recs.new ≡ overwrite out.now n recs.old }
-{
-    let mut i = 0;
-    while i < n {
-        recs[i] = rows::span_at(out, i);
-        i += 1;
-    }
-}
-
-// The listing of a short message: the numbers of one record for each of its bytes are enough.
-fn list_short(file: &[u8], message: &[u8], answer: usize, recs: &mut [Span]) -> Answer
-    requires { Short message.now }
-    ensures { (result ≡ listing file.now message.now answer recs.old)
-        × (recs.new ≡ after file.now message.now answer recs.old) }
-{
-    let mut out = [0u16; rows::SHORT_SPAN_ROOM];
-    let n = recs.len();
-    let a = answer::counted(file, message, answer, n, &mut out);
-    write_rows(recs, &out, a.count);
-    a.answer
-}
-
-// The listing of any message.
-fn list_long(file: &[u8], message: &[u8], answer: usize, recs: &mut [Span]) -> Answer
-    ensures { (result ≡ listing file.now message.now answer recs.old)
-        × (recs.new ≡ after file.now message.now answer recs.old) }
-{
-    let mut out = [0u16; rows::SPAN_ROOM];
-    let n = recs.len();
-    let a = answer::counted(file, message, answer, n, &mut out);
-    write_rows(recs, &out, a.count);
-    a.answer
-}
-
-// Listing: sign file, message, answer number from 0, and the lent slice.
-pub fn list(file: &[u8], message: &[u8], answer: usize, recs: &mut [Span]) -> Answer
-    ensures { (result ≡ listing file.now message.now answer recs.old)
-        × (recs.new ≡ after file.now message.now answer recs.old) }
-{
-    if message.len() <= 256 {
-        return list_short(file, message, answer, recs);
-    }
-    list_long(file, message, answer, recs)
-}
-
-// The placing of a short message.
-fn place_short(file: &[u8], message: &[u8], answer: usize, recs: &mut [Span]) -> Placed
-    requires { Short message.now }
+// The placing, in an array of N records.
+fn place_in<const N: usize>(file: &[u8], message: &[u8], answer: usize, recs: &mut [Span]) -> Placed
+    requires enough { length message.now ≤ 2048 → length message.now ≤ N }
+    requires fits { N < 65536 }
     ensures { (result ≡ placing file.now message.now answer recs.old)
         × (recs.new ≡ after file.now message.now answer recs.old) }
 {
-    let mut out = [0u16; rows::SHORT_SPAN_ROOM];
-    let n = recs.len();
-    let a = answer::placed(file, message, answer, n, &mut out);
-    write_rows(recs, &out, a.count);
-    a.placed
+    let mut out = [BLANK_SPAN; N];
+    let p = answer::placed(file, message, answer, recs.len(), &mut out);
+    let n = usize::from(p.spans);
+    recs[..n].copy_from_slice(&out[..n]);
+    p
 }
 
-// The placing of any message.
-fn place_long(file: &[u8], message: &[u8], answer: usize, recs: &mut [Span]) -> Placed
-    ensures { (result ≡ placing file.now message.now answer recs.old)
-        × (recs.new ≡ after file.now message.now answer recs.old) }
-{
-    let mut out = [0u16; rows::SPAN_ROOM];
-    let n = recs.len();
-    let a = answer::placed(file, message, answer, n, &mut out);
-    write_rows(recs, &out, a.count);
-    a.placed
-}
-
-// Placing: what the listing gives, and beside it the counts of the page. Sign file, message, answer number from 0, and the lent slice.
+// Placing: what the listing gives, and beside it the counts of the page. Sign file, message, answer number from 0, and the lent slice. A short
+// message takes less of the stack: one record for each of its bytes is enough.
 pub fn place(file: &[u8], message: &[u8], answer: usize, recs: &mut [Span]) -> Placed
     ensures { (result ≡ placing file.now message.now answer recs.old)
         × (recs.new ≡ after file.now message.now answer recs.old) }
 {
     if message.len() <= 256 {
-        return place_short(file, message, answer, recs);
+        return place_in::<SHORT_ROOM>(file, message, answer, recs);
     }
-    place_long(file, message, answer, recs)
+    place_in::<ROOM>(file, message, answer, recs)
+}
+
+// Listing: sign file, message, answer number from 0, and the lent slice.
+#[tactic(auto, unfolding(layout::specs::Listing::listing, counts::specs::Placing::placing))]
+pub fn list(file: &[u8], message: &[u8], answer: usize, recs: &mut [Span]) -> Answer
+    ensures { (result ≡ listing file.now message.now answer recs.old)
+        × (recs.new ≡ after file.now message.now answer recs.old) }
+{
+    place(file, message, answer, recs).answer
 }

@@ -1,26 +1,39 @@
--- What the writing of the answers and of the records leaves in the lent slices is what the call promises.
-use Rattle.std.specs.Prelude.{ℕ, ◌≡◌, List, ◌++◌, length, drop}
+-- What the copying of the answers and of the records leaves in the lent slices is what the call promises.
+use Rattle.std.specs.Prelude.{ℕ, ◌≡◌, refl, List, ◌++◌, length, drop, Some, None, Result, Ok, Err}
 use Rattle.std.proofs.Common.{◌∙◌, sym, ap}
+use Rattle.refusal.specs.declared.Refusal.{Refusal}
 use Rattle.layout.specs.declared.Span.{Span}
 use Rattle.rows.specs.Rows.{spans_of}
-use Rattle.rows.proofs.Laws.{spans_length}
 use Rattle.every.specs.declared.Shown.{Shown}
-use Rattle.every.specs.declared.AllCount.{AllCount}
-use Rattle.every.specs.All.{Gathered, gathered, unless_refused, listing_all, answers_after, records_after}
-use Rattle.every.specs.Walk.{showns_of, Settles}
-use Rattle.every.proofs.Laws.{showns_length}
+use Rattle.every.specs.declared.Listed.{Listed}
+use Rattle.every.specs.All.{Gathered, gathered, listed_as, listing_all, answers_after, records_after}
+use Rattle.every.specs.Walk.{showns_of, Written, Settles}
+use Rattle.every.proofs.Laws.{counts_listed, counts_refused}
 
-over_is : {A : Type 0} (l w ys : List A) (n : ℕ) → l ≡ w → length l ≡ n → l ++ drop n ys ≡ w ++ drop (length w) ys
-over_is l w ys n e h = ap (λ (j : ℕ). l ++ drop j ys) (sym h) ∙ ap (λ (x : List _). x ++ drop (length x) ys) e
+module _ (file m : List ℕ) (ys : List Shown) (zs : List Span) {shown : List Shown} {out : List Span} {r : Result Listed Refusal}
+    (known : Settles file m (length ys) (length zs) shown out r) where
+  abbrev g : Gathered
+  g = gathered file m (length ys) (length zs)
 
-pub tells : (file m : List ℕ) (ys vs : List Shown) (zs ws : List Span) {l₀ : List ℕ} {r : AllCount} {l : List ℕ} → Settles file m (length ys) (length zs) l₀ l r
-    → vs ≡ showns_of l r.answers ++ drop r.answers ys → ws ≡ spans_of (drop 4104 l) r.records ++ drop r.records zs
-    → (r.counts ≡ listing_all file m ys zs) × (vs ≡ answers_after file m ys zs) × (ws ≡ records_after file m ys zs)
-unfolding listing_all answers_after records_after
-tells file m ys vs zs ws {r = r} {l = l} known p q =
-    let g : Gathered = gathered file m (length ys) (length zs) in (
-      known.counts,
-      p ∙ over_is (showns_of l r.answers) (unless_refused g.refusal g.answers) ys r.answers known.answers (showns_length l r.answers),
-      q ∙ over_is (spans_of (drop 4104 l) r.records) (unless_refused g.refusal g.records) zs r.records known.records
-          (spans_length (drop 4104 l) r.records),
-    )
+  abbrev Tells : Result Listed Refusal → List Shown → List Span → Type 0
+  Tells q vs ws = (q ≡ listing_all file m ys zs) × (vs ≡ answers_after file m ys zs) × (ws ≡ records_after file m ys zs)
+
+  pub refused : {x : Refusal} → r ≡ Err x → Tells (Err x) ys zs
+  unfolding listing_all answers_after records_after
+  refused e =
+      let f : g.refusal ≡ Some _ = counts_refused g.refusal (length g.answers) (length g.records) (sym known.counts ∙ e) in
+      rw f (refl, refl, refl)
+
+  -- the first i answers go over ys, and the first j records over zs
+  pub listed : {n : Listed} {i j : ℕ} {vs : List Shown} {ws : List Span} → r ≡ Ok n → i ≡ n.answers → vs ≡ showns_of shown i → j ≡ n.records
+      → ws ≡ spans_of out j → Tells (Ok n) (vs ++ drop i ys) (ws ++ drop j zs)
+  unfolding listing_all answers_after records_after
+  listed {n} e a p b q =
+      let f : (g.refusal ≡ None) × (listed_as (length g.answers) (length g.records) ≡ n) =
+      counts_listed g.refusal (length g.answers) (length g.records) (sym known.counts ∙ e) in
+      let w : Written g (length ys) (length zs) shown out n = rw e at known.written in
+      let v = p ∙ ap (showns_of shown) a ∙ w.answers in
+      let u = q ∙ ap (spans_of out) b ∙ w.records in
+      let i = a ∙ sym (ap (λ (k : Listed). k.answers) f.1) in
+      let j = b ∙ sym (ap (λ (k : Listed). k.records) f.1) in
+      rw f.0 (sym (ap Ok f.1), rw (v, i), rw (u, j))

@@ -1,9 +1,5 @@
-use Prim.Native.Nat.{◌-◌}
 use Rattle.answer.proofs.Laws.{Stands}
 use Rattle.answer.proofs.numbered.Given as goal
 
 abbrev pub invariant-loop-i : goal.invariant-loop-i
-invariant-loop-i l = Stands l.file l.table l.msg l.number l.initial.rows l.initial.out l.rows l.out l.p l.i
-
-abbrev pub decreases-loop-i : goal.decreases-loop-i
-decreases-loop-i l = l.number - l.i
+invariant-loop-i l = Stands l.call l.number l.initial.rows l.initial.out l.rows l.out l.pages l.i
