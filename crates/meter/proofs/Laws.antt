@@ -39,7 +39,7 @@ use Rattle.counts.specs.Placing.{fonts_in, capitals_in, looked_in}
 use Rattle.rows.specs.Measured.{fault_in as fault_back}
 use Rattle.rows.specs.declared.Gauge.{Gauge}
 use Rattle.meter.specs.Opened.{AcceptedTable}
-use Rattle.meter.specs.Gauges.{meter_in, FontWidths, WidthsOf, CodesFit, CodeFits, WidthFound, EntryIn, part_codes, font_at, version_fault, missing_fault, gauge_for, GaugedIn, GaugedBy}
+use Rattle.meter.specs.Gauges.{meter_in, CodesFit, CodeFits, WidthFound, EntryIn, part_codes, font_at, version_fault, missing_fault, gauge_for, GaugedIn, GaugedBy}
 use Rattle.meter.specs.declared.call.Call.{Call}
 
 -- ---- widths
@@ -123,20 +123,6 @@ module _ (file : List ℕ) (t : SignFile) (b : Bytes file) (o : AcceptedTable fi
       go : (u : Option Font) → font_numbered n here.fs ≡ u → entry_found u ≡ NoEntry → u ≡ none
       go none q r = refl
       go (some g) q r = never (let z : ◌≡◌ {A = ℕ} 0 1 = cc in z)
-
--- the widths of the font: f is the answer of `font_numbered`
-module _ (call : Call) (n : ℕ) (widths : List ℕ) {f : FontFound} (e : f ≡ entry_numbered n (take call.table.count call.table.fonts)) where
-  pub widths_none : f ≡ NoEntry → WidthsOf call n widths
-  widths_none p x q = never (let z : ◌≡◌ {A = ℕ} 0 1 = cc in z)
-
-  module _ (x : FontEntry) (p : f ≡ EntryIs x) where
-    pub widths_some : FontWidths call x widths → WidthsOf call n widths
-    widths_some h y q =
-        let d : x ≡ y = cc in
-        rw d at h
-
-    pub widths_here : WidthsOf call n widths → FontWidths call x widths
-    widths_here h = h x (sym e ∙ p)
 
 -- `gauge_of`: f is the answer of `font_numbered`
 module _ (call : Call) (e : Entry) {f : FontFound} (p : f ≡ entry_numbered e.state.font (take call.table.count call.table.fonts)) where
