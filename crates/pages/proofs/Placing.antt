@@ -1,13 +1,11 @@
 -- A pass that is read and placed.
 use Prim.Native.Nat.{ℕ, ◌+◌}
-use mathlib.Core.Path.{◌≡◌, refl, sym, ◌∙◌, ap, subst}
+use mathlib.Core.Path.{◌≡◌, sym, ◌∙◌, ap, subst}
 use mathlib.Core.Bool.{true}
 use mathlib.Core.Option.{Option}
 use Rattle.std.specs.Prelude.{Result, Ok, Err, IfOk}
 use mathlib.Core.List.{List, ◌++◌}
 use native.Mathlib.Omega.{arith}
-use mir.Val as Val
-use mir.Syntax.{w64}
 use Rattle.refusal.specs.declared.Refusal.{Refusal}
 use Rattle.records.specs.declared.Config.{Config}
 use Rattle.sign.specs.Sign.{Sign, sign_file}
@@ -71,9 +69,6 @@ module _ {call : Call} {p : Reached} {rows₀ : List Row} {out : List Span} {row
   abbrev Rendered : List Span → Result PassDone Refusal → Type 0
   Rendered out' v = PassRendered call p rows₀ out rows out' v
 
-  pub render_refused : {x : Refusal} → t ≡ Err x → Rendered out (Err x)
-  render_refused q = record { ends = ap (placed_ending s es) (ap (told c call.msg.now) (sym q) ∙ read.ends); done = tt; rowed = read.room; room = refl }
-
   -- it is done
   module _ {d : PassDone} (q : t ≡ Ok d) where
     spans : SpansRead call p.at p.state rows d
@@ -89,17 +84,11 @@ module _ {call : Call} {p : Reached} {rows₀ : List Row} {out : List Span} {row
     pub render_few : from + n ≤ 2048
     render_few = omega (arith, spans.counted, spans.within, asked.counted, call.small)
 
-    pub render_fits : Val.Fits w64 (from + n)
-    render_fits = omega (arith, render_few)
-
     pub render_rows : n ≤ length rows
     render_rows = omega (arith, spans.counted, spans.within, read.room, asked.ready.rowed)
 
     pub render_room : from + n ≤ length out
     render_room = omega (arith, spans.counted, spans.within, asked.counted, asked.ready.room)
-
-    pub looked_fits : Val.Fits w64 (p.looked + d.reached.looked)
-    looked_fits = omega (arith, spans.few, spans.within, asked.few, call.small)
 
     pub render_asks : Placeable d.rect (rows_of rows n) (take (from + n - from) (drop from out))
     render_asks =
