@@ -17,7 +17,7 @@ use Rattle.refusal.specs.Refusals.{refusal}
 use Rattle.sentence.specs.Words.{words}
 use Rattle.sentence.specs.Sentence.{digits, digit_count, decimal, sentence, telling, buffer_after}
 use Rattle.sentence.specs.Texts.{PutMost}
-use Rattle.sentence.specs.declared.Told.TheVariants.{Length, Refused}
+use Rattle.std.specs.Prelude.{Ok, Err}
 
 pub digits_length : (w n : ℕ) → length (digits w n) ≡ w
 unfolding digits
@@ -149,7 +149,7 @@ regroup : (a b c d e f g h i j k : List ℕ) → (a ++ b) ++ (c ++ d) ++ (e ++ f
 regroup a b c d e f g h i j k = simp append_assoc
 
 module _ (r : Refusal) (l : List ℕ) where
-  pub sentence_short : length l < 96 → (Refused (refusal 16 0 0 0) ≡ telling r l) × (l ≡ buffer_after r l)
+  pub sentence_short : length l < 96 → (Err (refusal 16 0 0 0) ≡ telling r l) × (l ≡ buffer_after r l)
   unfolding telling buffer_after
   sentence_short h = rw (lt-ltb (length l) 96 h) (refl, refl)
 
@@ -161,11 +161,11 @@ module _ (r : Refusal) (l : List ℕ) where
       → Put d (ascii ": ") l₄ l₅ e
       → PutMost 40 e (words r.number) l₅ l₆ f
       → Put f (ascii ".") l₆ l₇ g
-      → (Length g ≡ telling r l) × (l₇ ≡ buffer_after r l)
+      → (Ok g ≡ telling r l) × (l₇ ≡ buffer_after r l)
   unfolding telling buffer_after sentence
   sentence_told {l₁} {l₂} {l₃} {l₄} {l₅} {l₆} {l₇} {a} {b} {c} {d} {e} {f} {g} h p₁ p₂ p₃ p₄ p₅ p₆ p₇ =
       rw (le-ltb (length l) 96 h) (
-        ap Length (whole.ends ∙ none_before (length (sentence r))),
+        ap Ok (whole.ends ∙ none_before (length (sentence r))),
         put_whole whole (omega (arith, whole.ends, p₁.few, p₂.few, p₃.few, p₄.few, p₅.ends, p₆.few, p₇.ends)),
       )
     where

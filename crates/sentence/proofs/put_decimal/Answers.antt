@@ -1,12 +1,9 @@
-use borrow.Author.Rules.{rules}
-use Rattle.sentence.proofs.Laws.{count_start, count_on, count_end}
+use Rattle.std.proofs.Common.{rules}
+use Rattle.sentence.proofs.Laws.{count_on, count_end}
 use Rattle.sentence.proofs.put_decimal.Goals as goal
-
-pub loop-k-init : goal.loop-k-init
-loop-k-init c = search (count_start, rules)
 
 pub loop-k-preserved : goal.loop-k-preserved
 loop-k-preserved c = search (count_on, rules)
 
 pub returns : goal.returns
-returns c = search count_end
+returns c = search (count_end, rules)
