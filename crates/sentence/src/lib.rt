@@ -2,18 +2,18 @@
 #![tactic(auto)]
 
 ghost use Rattle.std.specs.Prelude.{◌≡◌, ◌++◌, ◌+◌, ◌≤◌, ◌<◌, length};
-ghost use Rattle.base.specs.Text.{ascii};
 ghost use Rattle.buffer.specs.Put.{Put};
 ghost use Rattle.sentence.specs.Words.{words};
 ghost use Rattle.sentence.specs.Sentence.{digit_count, decimal, telling, buffer_after};
-ghost use Rattle.sentence.specs.Texts.{PutMost};
 
 use refusal::Refusal;
 
 // How many digits a number has.
 #[tactic(auto, unfolding(crate::specs::Sentence::digit_count))]
 fn digit_count(n: u16) -> usize
-    ensures { (result ≡ digit_count n) × (result ≤ 5) }
+    ensures count { result ≡ digit_count n }
+    ensures few { result ≤ 5 }
+    ensures small { n < 1000 → result ≤ 3 }
 {
     match n {
         0..=9 => 1,
@@ -22,21 +22,6 @@ fn digit_count(n: u16) -> usize
         1000..=9999 => 4,
         _ => 5,
     }
-}
-
-// A number without leading zeros, from its last digit on.
-#[tactic(auto, using(crate::proofs::Laws::count_start))]
-fn put_decimal(buffer: &mut [u8], at: usize, n: u16) -> usize
-    requires { at + 5 ≤ length buffer.old }
-    ensures { Put at (decimal n) buffer.old buffer.new result }
-{
-    let end = at + digit_count(n);
-    let mut m = n;
-    for k in (at..end).rev() {
-        buffer[k] = b'0' + (m % 10) as u8;
-        m /= 10;
-    }
-    end
 }
 
 // The words of a number.
@@ -65,34 +50,43 @@ fn words(number: u8) -> &'static [u8]
     }
 }
 
-// The words of a number, put at a place.
-#[tactic(auto, using(crate::proofs::Texts::words_put))]
-fn put_words(buffer: &mut [u8], at: usize, number: u8) -> usize
-    requires { at + 40 ≤ length buffer.old }
-    ensures { PutMost 40 at (words number) buffer.old buffer.new result }
-{
-    buffer::put(buffer, at, words(number))
+// A text in a lent buffer, as far as it is written.
+#[derive(Drop)]
+struct Writer<'a> {
+    buffer: &'a mut [u8],
+    len: usize,
 }
 
-// A text, and a number after it.
-fn put_field(buffer: &mut [u8], at: usize, text: &[u8], n: u16) -> usize
-    requires { at + length text.now + 5 ≤ length buffer.old }
-    ensures { PutMost (length text.now + 5) at (text.now ++ decimal n) buffer.old buffer.new result }
-{
-    let k = buffer::put(buffer, at, text);
-    put_decimal(buffer, k, n)
-}
+impl Writer<'_> {
+    fn put(&mut self, text: &[u8])
+        requires { self.old.len + length text.now ≤ length self.old.buffer.now }
+        ensures put { Put self.old.len text.now self.old.buffer.now self.new.buffer.now self.new.len }
+        ensures same { self.new.buffer.ghost_name ≡ self.old.buffer.ghost_name }
+    {
+        self.len = buffer::put(self.buffer, self.len, text);
+    }
 
-// The sentence's beginning, with the number.
-#[tactic(auto, using(crate::proofs::Laws::number_put))]
-fn put_number(buffer: &mut [u8], number: u8) -> usize
-    requires { 96 ≤ length buffer.old }
-    ensures { PutMost 11 0 (ascii "Refusal " ++ decimal number) buffer.old buffer.new result }
-{
-    put_field(buffer, 0, b"Refusal ", u16::from(number))
+    // A number without leading zeros, from its last digit on.
+    #[tactic(auto, using(crate::proofs::Laws::count_start))]
+    fn put_decimal(&mut self, n: u16)
+        requires { self.old.len + 5 ≤ length self.old.buffer.now }
+        ensures put { Put self.old.len (decimal n) self.old.buffer.now self.new.buffer.now self.new.len }
+        ensures same { self.new.buffer.ghost_name ≡ self.old.buffer.ghost_name }
+        ensures few { self.new.len ≤ self.old.len + 5 }
+        ensures small { n < 1000 → self.new.len ≤ self.old.len + 3 }
+    {
+        let end = self.len + digit_count(n);
+        let mut m = n;
+        for k in (self.len..end).rev() {
+            self.buffer[k] = b'0' + (m % 10) as u8;
+            m /= 10;
+        }
+        self.len = end;
+    }
 }
 
 // The refusal's sentence in the lent buffer: its length.
+#[tactic(auto, unfolding(crate::specs::Sentence::telling, crate::specs::Sentence::buffer_after))]
 pub fn sentence(r: Refusal, buffer: &mut [u8]) -> Result<u16, Refusal>
     ensures { (result ≡ telling r buffer.old) × (buffer.new ≡ buffer_after r buffer.old) }
 {
@@ -104,11 +98,17 @@ pub fn sentence(r: Refusal, buffer: &mut [u8]) -> Result<u16, Refusal>
             detail: 0,
         });
     }
-    let number = put_number(buffer, r.number);
-    let start = put_field(buffer, number, b" at byte ", r.start);
-    let length = put_field(buffer, start, b", length ", r.length);
-    let detail = put_field(buffer, length, b", detail ", r.detail);
-    let colon = buffer::put(buffer, detail, b": ");
-    let end = put_words(buffer, colon, r.number);
-    Ok(buffer::put(buffer, end, b".") as u16)
+    let mut out = Writer { buffer, len: 0 };
+    out.put(b"Refusal ");
+    out.put_decimal(u16::from(r.number));
+    out.put(b" at byte ");
+    out.put_decimal(r.start);
+    out.put(b", length ");
+    out.put_decimal(r.length);
+    out.put(b", detail ");
+    out.put_decimal(r.detail);
+    out.put(b": ");
+    out.put(words(r.number));
+    out.put(b".");
+    Ok(out.len as u16)
 }
