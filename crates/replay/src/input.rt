@@ -6,6 +6,7 @@ use std::io::Read;
 
 // A line that came, its number, and the places of the stream before and after it.
 // kept: the lines from the case line on whose answer it is in, or the line alone.
+#[derive(Clone, Copy)]
 pub struct Line<'a> {
     pub text: &'a [u8],
     pub kept: &'a [u8],
