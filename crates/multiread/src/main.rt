@@ -3,69 +3,67 @@
 // Long times hold if sign.bin in the current folder is a sign file that has them. A write that fails is passed over.
 #![tactic(auto)]
 
+ghost use Rattle.std.specs.Prelude.{◌-◌, length};
+ghost use Rattle.std.specs.Iterator.{at_most};
+
 use reading::Reading;
 use refusal::Refusal;
 use std::rt::Files;
 use value::{Place, Value};
 
-fn print(rt: &impl Print, n: u32) {
-    let _ = print!(rt; " {n}");
+// The places where slices of a message start, from one on.
+#[derive(Drop)]
+struct Starts<'a> {
+    msg: &'a [u8],
+    at: usize,
 }
 
-fn print_slice(rt: &impl Print, p: Place, v: Value) {
-    let _ = print!(rt; "{}", p.start);
-    print(rt, p.len as u32);
-    let m = numbers::numbers_of(v);
-    print(rt, m.code);
-    let n = m.n;
-    print(rt, n[0]);
-    print(rt, n[1]);
-    print(rt, n[2]);
-    print(rt, n[3]);
-    print(rt, n[4]);
-    print(rt, n[5]);
-    print(rt, n[6]);
-    print(rt, n[7]);
-    let _ = println!(rt);
-}
+impl Iterator for Starts<'_> {
+    type Item = usize;
 
-fn print_refusal(rt: &impl Print, r: Refusal) {
-    let _ = print!(rt; "refused");
-    print(rt, base::wide32(r.number));
-    print(rt, r.start as u32);
-    print(rt, r.length as u32);
-    print(rt, r.detail as u32);
-    let _ = println!(rt);
-}
+    ghost remaining = { λ s. at_most (length s.msg.now - s.at) };
 
-// Prints what stands at a place. The place of the next slice, or the end where the message is refused as a whole.
-fn print_at(rt: &impl Print, msg: &[u8], at: usize, long: bool) -> usize {
-    let r = reading::read(msg, at, long);
-    match r {
-        Reading::Slice(p, v) => {
-            print_slice(rt, p, v);
-            token::slice_end(msg, at)
-        }
-        Reading::End => msg.len(),
-        Reading::Refused(f) => {
-            print_refusal(rt, f);
-            if f.number < 5 {
-                return msg.len();
-            }
-            token::slice_end(msg, at)
+    #[tactic(auto, using(token::proofs::Laws::next_more))]
+    fn next(&mut self) -> Option<usize> {
+        let at = self.at;
+        if at < self.msg.len() {
+            self.at = token::slice_end(self.msg, at);
+            Some(at)
+        } else {
+            None
         }
     }
 }
 
-// Prints every slice of a message.
+fn print_slice(rt: &impl Print, p: Place, v: Value) {
+    let said = numbers::numbers_of(v);
+    let _ = print!(rt; "{} {} {}", p.start, p.len, said.code);
+    for n in &said.n {
+        let _ = print!(rt; " {n}");
+    }
+    let _ = println!(rt);
+}
+
+fn print_refusal(rt: &impl Print, r: Refusal) {
+    let _ = println!(rt;
+        "refused {} {} {} {}",
+        r.number, r.start, r.length, r.detail
+    );
+}
+
+// Prints every slice of a message, or why it is refused as a whole.
 fn print_all(rt: &impl Print, msg: &[u8], long: bool) {
-    let mut at = 0;
-    while at < msg.len() {
-        let next = print_at(rt, msg, at, long);
-        if next <= at {
-            return;
+    for at in (Starts { msg, at: 0 }) {
+        match reading::read(msg, at, long) {
+            Reading::Slice(p, v) => print_slice(rt, p, v),
+            Reading::End => break,
+            Reading::Refused(r) => {
+                print_refusal(rt, r);
+                if r.number < 5 {
+                    break;
+                }
+            }
         }
-        at = next;
     }
     let _ = println!(rt; "end {}", msg.len());
 }
@@ -73,14 +71,13 @@ fn print_all(rt: &impl Print, msg: &[u8], long: bool) {
 // Whether the sign file has long times; one that is refused has none.
 fn long_times(rt: &impl Files) -> bool {
     let mut buf = [0u8; 65536];
-    let n = signbin::load(rt, &mut buf);
-    let table = sign::read_sign(&buf[..n]);
+    let table = sign::read_sign(signbin::load(rt, &mut buf));
     let config = table.config;
     config.long_times
 }
 
 fn main(rt: HostRuntime) {
     let mut buf = [0u8; 2049];
-    let n = signbin::read_full(&mut rt.stdin(), &mut buf);
-    print_all(&rt, &buf[..n], long_times(&rt));
+    let msg = signbin::read_full(&mut rt.stdin(), &mut buf);
+    print_all(&rt, msg, long_times(&rt));
 }

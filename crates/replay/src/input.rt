@@ -1,130 +1,119 @@
-// Reading an answer stream on standard input, and what is printed. A write that fails is passed over.
-ghost use Rattle.std.specs.Prelude.{◌≤◌, ◌<◌, length};
-ghost use Rattle.replay.specs.Text.{Within};
+// Reading an answer stream.
+ghost use Rattle.std.specs.Prelude.{◌≡◌, ◌-◌, ◌≤◌, ◌<◌, length, IfSome, IsTrue};
 
-use crate::{Stream, Window, line_end, slide, start, up};
+use crate::{BadStream, Phase, Stream};
 use std::io::Read;
 
-// A place in the input, of which a buffer holds a window.
-// came: the last line that came, and where its case starts. was, stream: the places of the stream before and after it.
-// line: its number; that of the line that was to come where the input ended. read: the last turn read it, and it is of the format.
+// A line that came, its number, and the places of the stream before and after it.
+// kept: the lines from the case line on whose answer it is in, or the line alone.
 #[derive(Clone, Copy)]
-pub struct Input {
-    pub window: Window,
-    pub came: Window,
+pub struct Line<'a> {
+    pub text: &'a [u8],
+    pub kept: &'a [u8],
+    pub number: u32,
     pub was: Stream,
-    pub stream: Stream,
-    pub line: u32,
-    pub read: bool,
-    pub going: bool,
+    pub then: Stream,
 }
 
-impl Input {
-    pub fn start() -> Input
-        ensures { Within result.window 0 }
-    {
-        let none = Window {
+impl Line<'_> {
+    // The first of the lines kept.
+    pub fn case(&self) -> &[u8] {
+        self.kept.split(|b| *b == b'\n').next().unwrap_or_default()
+    }
+}
+
+// A place in the input, of which a lent buffer holds a part: the lines kept from start on, what comes from at on, up to end.
+#[derive(Drop)]
+pub struct Input<'a, R> {
+    source: R,
+    buf: &'a mut [u8],
+    start: usize,
+    at: usize,
+    end: usize,
+    stream: Stream,
+    line: u32,
+    ghost ordered: { start ≤ at },
+    ghost taken: { at ≤ end },
+    ghost room: { end ≤ length buf.now },
+}
+
+impl<'a, R: Read> Input<'a, R> {
+    pub fn new(source: R, buf: &'a mut [u8]) -> Self {
+        Input {
+            source,
+            buf,
             start: 0,
             at: 0,
             end: 0,
-        };
-        let stream = start();
-        Input {
-            window: none,
-            came: none,
-            was: stream,
-            stream,
+            stream: Stream::START,
             line: 0,
-            read: false,
-            going: true,
         }
     }
 
-    // After the line that ends at a place. Where cases are kept, one stays in the window until its answer came.
-    fn taken(self, line: &[u8], end: usize, keep: bool) -> Input
-        requires { (self.window.start ≤ self.window.at) × (self.window.at ≤ end) × (end < self.window.end) }
-        ensures { Within result.window self.window.end × Within result.came self.window.end }
+    // Moves what the buffer holds to its front and reads more behind it: whether something came.
+    fn fill(&mut self) -> bool
+        ensures more { IsTrue result → self.old.end - self.old.start < self.new.end - self.new.start }
+        ensures room { length self.new.buf.now ≡ length self.old.buf.now }
     {
-        let w = self.window;
-        let was = self.stream;
-        let then = was.next(line);
-        let good = !then.is_bad();
-        Input {
-            window: w.past(end, keep && then.answers()),
-            came: Window {
-                start: w.start,
-                at: w.at,
-                end,
-            },
-            was,
-            stream: then,
-            line: up(self.line),
-            read: good,
-            going: good,
+        let Input {
+            buf,
+            start,
+            at,
+            end,
+            ..
+        } = self;
+        buf[..*end].rotate_left(*start);
+        *end -= *start;
+        *at -= *start;
+        *start = 0;
+        let more = self.source.read(&mut self.buf[self.end..]).unwrap_or(0);
+        self.end += more;
+        0 < more
+    }
+
+    // Reads until the next line is there: where it ends. None where the input ends before, or the buffer is full.
+    fn line_end(&mut self) -> Option<usize>
+        ensures { IfSome result (λ n. (self.new.at ≤ n) × (n < self.new.end)) }
+    {
+        loop {
+            let rest = &self.buf[self.at..self.end];
+            if let Some(n) = rest.iter().position(|b| *b == b'\n') {
+                return Some(self.at + n);
+            }
+            if !self.fill() {
+                return None;
+            }
         }
     }
 
-    // Moves what the buffer holds to its front and reads more behind it; where nothing comes or the buffer is full, the input ended.
-    fn filled(mut self, stdin: &mut impl Read, buf: &mut [u8]) -> Input
-        requires { Within self.window (length buf.old) }
-        ensures { Within result.window (length buf.new) × Within result.came (length buf.new) }
-    {
-        let front = slide(buf, self.window);
-        let end = front.end;
-        let more = stdin.read(&mut buf[end..]).unwrap_or(0);
-        let w = Window {
-            start: front.start,
-            at: front.at,
-            end: end + more,
+    // The next line; None where the input ends as the stream does.
+    pub fn next(&mut self) -> Result<Option<Line<'_>>, BadStream> {
+        let found = self.line_end();
+        let line = self.line.saturating_add(1);
+        let Some(end) = found else {
+            let whole = self.stream.phase == Phase::Done && self.at == self.end;
+            return if whole {
+                Ok(None)
+            } else {
+                Err(BadStream { line })
+            };
         };
-        self.window = w;
-        self.came = w;
-        self.read = false;
-        if 0 < more {
-            return self;
+        let was = self.stream;
+        let then = was.next(&self.buf[self.at..end]).ok_or(BadStream { line })?;
+        let start = self.start;
+        let at = self.at;
+        self.line = line;
+        self.stream = then;
+        self.at = end + 1;
+        if then.answering().is_none() {
+            self.start = end + 1;
         }
-        self.line = up(self.line);
-        self.going = false;
-        self
+        Ok(Some(Line {
+            text: &self.buf[at..end],
+            kept: &self.buf[start..end],
+            number: line,
+            was,
+            then,
+        }))
     }
-
-    // After the next line, or more input.
-    pub fn next(self, stdin: &mut impl Read, buf: &mut [u8], keep: bool) -> Input
-        requires { Within self.window (length buf.old) }
-        ensures { Within result.window (length buf.new) × Within result.came (length buf.new) }
-    {
-        let w = self.window;
-        let at = w.at;
-        let end = w.end;
-        let stop = line_end(&buf[0..end], at);
-        if stop < end {
-            return self.taken(&buf[at..stop], stop, keep);
-        }
-        self.filled(stdin, buf)
-    }
-
-    // Whether the input ended where the stream did.
-    pub fn is_whole(self) -> bool {
-        let w = self.window;
-        let s = self.stream;
-        s.is_done() && w.at == w.end
-    }
-}
-
-// `D 12 of 13 agree`
-pub fn print_score(rt: &impl Print, kind: u8, agree: u32, cases: u32) {
-    let _ = rt.write_all(&[kind]);
-    let _ = println!(rt; " {agree} of {cases} agree");
-}
-
-// `bad stream at line 12`
-pub fn print_bad(rt: &impl Print, line: u32) {
-    let _ = println!(rt; "bad stream at line {line}");
-}
-
-// `line 12 does not agree: D 8 30`
-pub fn print_other(rt: &impl Print, line: u32, case: &[u8]) {
-    let _ = print!(rt; "line {line} does not agree: ");
-    let _ = rt.write_all(case);
-    let _ = println!(rt);
 }

@@ -1,36 +1,124 @@
 // Replays the I cases of an answer stream on standard input, and prints how many agree.
 #![tactic(auto)]
 
-mod compare;
-
-use compare::Check;
-use replay::Input;
+use arrayvec::ArrayVec;
+use replay::{BadStream, Input, Kind, Line, Phase, Score};
+use sign::{Outcome, SignFile};
 use std::io::Read;
 
-// What is printed at the end.
-fn print_all(rt: &impl Print, input: Input, check: Check) {
-    if check.good && input.is_whole() {
-        replay::print_score(rt, b'I', check.agreed, check.cases);
-        return;
-    }
-    replay::print_bad(rt, input.line);
+// The case whose answer is read: the number of its line, the next font of its answer, and whether it agrees so far.
+#[derive(Clone, Copy)]
+struct Check {
+    line: u32,
+    row: usize,
+    agrees: bool,
 }
 
-// Nothing says that the input ends: the turns are counted down from a number that no run uses up.
-fn run_all(rt: &impl Print, stdin: &mut impl Read, buf: &mut [u8], file: &mut [u8]) {
-    let mut input = Input::start();
-    let mut check = compare::none();
-    let mut turns = u64::MAX;
-    while turns > 0 && input.going && check.good {
-        input = input.next(stdin, buf, false);
-        check = check.after_turn(rt, input, buf, file);
-        turns -= 1;
+// The sign file that came last, the I case whose answer is read, and how many agree.
+#[derive(Drop)]
+struct Replay {
+    sign: Option<SignFile>,
+    check: Option<Check>,
+    score: Score,
+}
+
+// Whether a line is the count of fonts, or refusal 1.
+fn is_count(line: &[u8], sign: &SignFile) -> bool {
+    match sign.outcome {
+        Outcome::Accepted => replay::is_line(line, &[sign.count as u64]),
+        Outcome::RefusedAt(start) => replay::is_line(line, &[4, 1, start as u64, 0, 0]),
     }
-    print_all(rt, input, check);
+}
+
+// Whether a line is the number and the version id of a font of the file.
+fn is_font(line: &[u8], row: usize, sign: &SignFile) -> bool {
+    let font = sign.fonts.iter().take(sign.count).nth(row);
+    font.is_some_and(|e| { replay::begins(line, &[u64::from(e.number), u64::from(e.version_id)]) })
+}
+
+impl Check {
+    // After a line of the answer.
+    fn answer(&mut self, line: &Line, sign: &SignFile) {
+        if let Phase::Rows(..) = line.was.phase {
+            self.agrees = self.agrees && is_font(line.text, self.row, sign);
+            self.row = self.row.saturating_add(1);
+        } else {
+            self.agrees = is_count(line.text, sign);
+        }
+    }
+}
+
+impl Replay {
+    // At a case line, or the end. None where its words are not of the format, or no file came before an I line.
+    fn open(&mut self, line: &Line) -> Option<()> {
+        match Kind::of(line.text) {
+            Some(Kind::S) => {
+                let mut file = ArrayVec::<u8, 131072>::new();
+                replay::bytes(replay::word(line.text, 1), &mut file)?;
+                self.sign = Some(sign::read_sign(file.as_slice()));
+            }
+            Some(Kind::I) => {
+                self.sign?;
+                self.check = Some(Check {
+                    line: line.number,
+                    row: 0,
+                    agrees: true,
+                });
+            }
+            _ => {}
+        }
+        Some(())
+    }
+
+    // After the last line of an answer: the case is counted, and told if it does not agree.
+    fn settle(&mut self, rt: &impl Print, check: Check) {
+        self.check = None;
+        self.score.count(check.agrees);
+        if !check.agrees {
+            replay::print_other(rt, check.line, b"I");
+        }
+    }
+
+    // After a line.
+    fn turn(&mut self, rt: &impl Print, line: &Line) -> Result<(), BadStream> {
+        if line.was.answering().is_none() {
+            return self.open(line).ok_or(BadStream { line: line.number });
+        }
+        let (Some(mut check), Some(sign)) = (self.check, self.sign) else {
+            return Ok(());
+        };
+        check.answer(line, &sign);
+        self.check = Some(check);
+        if line.then.answering().is_none() {
+            self.settle(rt, check);
+        }
+        Ok(())
+    }
+
+    // Nothing says that the input ends: the turns are counted up to a number that no run uses up.
+    fn run(&mut self, rt: &impl Print, input: &mut Input<impl Read>) -> Result<(), BadStream> {
+        for _ in 0..u64::MAX {
+            let Some(line) = input.next()? else {
+                break;
+            };
+            self.turn(rt, &line)?;
+        }
+        Ok(())
+    }
 }
 
 fn main(rt: HostRuntime) {
     let mut buf = [0u8; 524288];
-    let mut file = [0u8; 131072];
-    run_all(&rt, &mut rt.stdin(), &mut buf, &mut file);
+    let mut replay = Replay {
+        sign: None,
+        check: None,
+        score: Score::default(),
+    };
+    let mut input = Input::new(rt.stdin(), &mut buf);
+    match replay.run(&rt, &mut input) {
+        Ok(()) => replay.score.print(&rt, Kind::I),
+        Err(bad) => {
+            let _ = println!(rt; "{bad}");
+        }
+    }
 }

@@ -1,12 +1,9 @@
--- Decimals: their digits, and what the number reader makes of them.
-use Prim.Native.Nat.{ℕ, zero, suc, ◌+◌, ◌-◌, ◌/◌, ◌%◌, ◌≤◌, ◌<◌}
-use native.Mathlib.Omega.{arith}
-use mathlib.Core.Path.{◌≡◌, refl, sym, ◌∙◌, ap, subst}
-use mathlib.Core.Bool.{Bool, true, false}
-use mathlib.Core.List.{List, [], ◌∷◌, ◌++◌, append_assoc}
+-- Decimals: their digits and how many; and the sentence, one text after the other.
+use Rattle.std.proofs.Common.{ℕ, zero, suc, ◌+◌, ◌-◌, ◌/◌, ◌%◌, ◌≤◌, ◌<◌, ◌≡◌, refl, sym, ◌∙◌, ap, Bool, true, false, List, [], ◌∷◌, ◌++◌, length, set, length-set, length-append, add-zero, zero-add, add-one, add-suc, suc-add, arith}
+use Rattle.std.proofs.Math.Nat.{add-sub_cancel_left}
+use Rattle.std.specs.Prelude.{Ok, Err}
 use lib.Dec.{ltb}
 use borrow.Author.Tests.{lt-ltb, le-ltb}
-use lib.ListN.{length, set, length-set, length-append}
 use lib.Seq.{sets, set_comm}
 use Rattle.base.specs.Pick.{pick}
 use Rattle.base.specs.Text.{ascii}
@@ -16,16 +13,11 @@ use Rattle.refusal.specs.declared.Refusal.{Refusal}
 use Rattle.refusal.specs.Refusals.{refusal}
 use Rattle.sentence.specs.Words.{words}
 use Rattle.sentence.specs.Sentence.{digits, digit_count, decimal, sentence, telling, buffer_after}
-use Rattle.sentence.specs.Texts.{PutMost}
-use Rattle.sentence.specs.declared.Told.TheVariants.{Length, Refused}
 
 pub digits_length : (w n : ℕ) → length (digits w n) ≡ w
 unfolding digits
 digits_length zero n = refl
-digits_length (suc w) n = length-append (digits w (n / 10)) ((48 + n % 10) ∷ []) ∙ more w (length (digits w (n / 10))) (digits_length w (n / 10))
-  where
-    more : (w k : ℕ) → k ≡ w → k + 1 ≡ suc w
-    more w k e = omega arith
+digits_length (suc w) n = rw (length-append, digits_length w (n / 10)) (add-one w)
 
 pub decimal_length : (n : ℕ) → length (decimal n) ≡ digit_count n
 unfolding decimal
@@ -41,17 +33,10 @@ digits_none i m q = rw q
 
 -- a store past a run of stores comes before it
 sets_last : (xs l : List ℕ) (at d : ℕ) → sets l at (xs ++ (d ∷ [])) ≡ sets (set l (at + length xs) d) at xs
-sets_last [] l at d = ap (λ (k : ℕ). set l k d) (zeroed at)
-  where
-    zeroed : (k : ℕ) → k ≡ k + 0
-    zeroed k = omega arith
+sets_last [] l at d = rw (add-zero at)
 sets_last (x ∷ xs) l at d =
     sets_last xs (set l at x) (suc at) d
-    ∙ ap (λ (m : List ℕ). sets m (suc at) xs)
-    (set_comm l at (suc at + length xs) x d (λ e. absurd (omega (arith, e))) ∙ ap (λ (k : ℕ). set (set l k d) at x) (moved at (length xs)))
-  where
-    moved : (k n : ℕ) → suc k + n ≡ k + suc n
-    moved k n = omega arith
+    ∙ rw (set_comm l at (suc at + length xs) x d (λ e. absurd (omega (arith, e))), suc-add at (length xs), ← add-suc at (length xs))
 
 -- ---- the loop: from the last digit on
 
@@ -74,11 +59,8 @@ module _ {at n : ℕ} {lent : List ℕ} where
         upto = omega arith;
         room = omega arith;
         size = refl;
-        rest = ap (λ (k : ℕ). sets lent at (digits k n)) (sub at w ∙ e);
+        rest = rw (add-sub_cancel_left, e);
       }
-    where
-      sub : (a b : ℕ) → a + b - a ≡ b
-      sub a b = omega arith
 
   pub count_on : {now : List ℕ} {end m k d : ℕ} → Counting at n lent now end m k → at < k → d ≡ 48 + m % 10
       → Counting at n lent (set now (k - 1) d) end (m / 10) (k - 1)
@@ -133,47 +115,27 @@ digit_count_small n h = three (ltb n 10) (ltb n 100) (ltb n 1000) (lt-ltb n 1000
     three false true c e = omega arith
     three false false c e = rw e (omega arith)
 
-pub field_put : (n : ℕ) {at k p : ℕ} {t l l' l'' : List ℕ} → Put at t l l' k → Put k (decimal n) l' l'' p → PutMost (length t + 5) at (t ++ decimal n) l l'' p
-field_put n {at} {k} {p} {t} x y = record { put = put_then x y; few = omega (arith, x.ends, y.ends, decimal_length n, digit_count_le n) }
-
-pub number_put : {n m p : ℕ} {l l' : List ℕ} → m ≡ n → m < 256 → PutMost (length (ascii "Refusal ") + 5) 0 (ascii "Refusal " ++ decimal m) l l' p
-    → PutMost 11 0 (ascii "Refusal " ++ decimal n) l l' p
-number_put {n} {m} {p} {l} {l'} e h x =
-    subst (λ (k : ℕ). PutMost 11 0 (ascii "Refusal " ++ decimal k) l l' p) e
-    (record { put = x.put; few = omega (arith, x.put.ends, decimal_length m, digit_count_small m (omega arith)) })
-
 -- ---- the sentence
 
--- pieces of two, as the sentence has them
-regroup : (a b c d e f g h i j k : List ℕ) → (a ++ b) ++ (c ++ d) ++ (e ++ f) ++ (g ++ h) ++ i ++ j ++ k ≡ a ++ b ++ c ++ d ++ e ++ f ++ g ++ h ++ i ++ j ++ k
-regroup a b c d e f g h i j k = simp append_assoc
-
 module _ (r : Refusal) (l : List ℕ) where
-  pub sentence_short : length l < 96 → (Refused (refusal 16 0 0 0) ≡ telling r l) × (l ≡ buffer_after r l)
+  pub sentence_short : length l < 96 → (Err (refusal 16 0 0 0) ≡ telling r l) × (l ≡ buffer_after r l)
   unfolding telling buffer_after
   sentence_short h = rw (lt-ltb (length l) 96 h) (refl, refl)
 
-  pub sentence_told : {l₁ l₂ l₃ l₄ l₅ l₆ l₇ : List ℕ} {a b c d e f g : ℕ} → 96 ≤ length l
-      → PutMost 11 0 (ascii "Refusal " ++ decimal r.number) l l₁ a
-      → PutMost 14 a (ascii " at byte " ++ decimal r.start) l₁ l₂ b
-      → PutMost 14 b (ascii ", length " ++ decimal r.length) l₂ l₃ c
-      → PutMost 14 c (ascii ", detail " ++ decimal r.detail) l₃ l₄ d
-      → Put d (ascii ": ") l₄ l₅ e
-      → PutMost 40 e (words r.number) l₅ l₆ f
-      → Put f (ascii ".") l₆ l₇ g
-      → (Length g ≡ telling r l) × (l₇ ≡ buffer_after r l)
+  -- what was put, one text after the other
+  pub sentence_told : {l₁ l₂ l₃ l₄ l₅ l₆ l₇ l₈ l₉ l₁₀ l₁₁ : List ℕ} {a b c d e f g h i j k : ℕ} → 96 ≤ length l → k ≤ 96
+      → {n : ℕ} → n ≡ r.number → {w : List ℕ} → w ≡ words r.number
+      → Put 0 (ascii "Refusal ") l l₁ a → Put a (decimal n) l₁ l₂ b
+      → Put b (ascii " at byte ") l₂ l₃ c → Put c (decimal r.start) l₃ l₄ d
+      → Put d (ascii ", length ") l₄ l₅ e → Put e (decimal r.length) l₅ l₆ f
+      → Put f (ascii ", detail ") l₆ l₇ g → Put g (decimal r.detail) l₇ l₈ h
+      → Put h (ascii ": ") l₈ l₉ i → Put i w l₉ l₁₀ j
+      → Put j (ascii ".") l₁₀ l₁₁ k → {l' : List ℕ} → l' ≡ l₁₁
+      → (Ok k ≡ telling r l) × (l' ≡ buffer_after r l)
   unfolding telling buffer_after sentence
-  sentence_told {l₁} {l₂} {l₃} {l₄} {l₅} {l₆} {l₇} {a} {b} {c} {d} {e} {f} {g} h p₁ p₂ p₃ p₄ p₅ p₆ p₇ =
-      rw (le-ltb (length l) 96 h) (
-        ap Length (whole.ends ∙ none_before (length (sentence r))),
-        put_whole whole (omega (arith, whole.ends, p₁.few, p₂.few, p₃.few, p₄.few, p₅.ends, p₆.few, p₇.ends)),
-      )
+  sentence_told {l₁₁ = l₁₁} {k = k} x y {n} e {w} f p₁ p₂ p₃ p₄ p₅ p₆ p₇ p₈ p₉ p₁₀ p₁₁ q =
+      rw (le-ltb (length l) 96 x) (ap Ok (whole.ends ∙ zero-add (length (sentence r))), q ∙ put_whole whole (omega (arith, whole.ends)))
     where
-      none_before : (k : ℕ) → 0 + k ≡ k
-      none_before k = omega arith
-
-      whole : Put 0 (sentence r) l l₇ g
-      whole = subst (λ (t : List ℕ). Put 0 t l l₇ g)
-          (regroup (ascii "Refusal ") (decimal r.number) (ascii " at byte ") (decimal r.start) (ascii ", length ") (decimal r.length)
-          (ascii ", detail ") (decimal r.detail) (ascii ": ") (words r.number) (ascii "."))
-          (put_then (put_then (put_then (put_then (put_then (put_then p₁.put p₂.put) p₃.put) p₄.put) p₅) p₆.put) p₇)
+      whole : Put 0 (sentence r) l l₁₁ k
+      whole = rw (← f, ← e)
+          (put_then (put_then (put_then (put_then (put_then (put_then (put_then (put_then (put_then (put_then p₁ p₂) p₃) p₄) p₅) p₆) p₇) p₈) p₉) p₁₀) p₁₁)

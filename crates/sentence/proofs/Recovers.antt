@@ -9,6 +9,8 @@ use lib.Dec.{leb, ltb, eqb}
 use lib.ListN.{length, drop, get_or, length-append}
 use lib.Seq.{drop-append-add}
 use borrow.Author.Tests.{leb-true, le-leb, lt-ltb, ne_eqb, ltb-true, eqb-true}
+use Rattle.std.specs.List.{list_all}
+use Rattle.std.proofs.lemmas.List.Folds.{list_all-append}
 use Rattle.base.specs.Pick.{pick}
 use Rattle.base.specs.Text.{ascii}
 use Rattle.number.specs.declared.Number.{Number}
@@ -19,7 +21,7 @@ use Rattle.sentence.specs.Words.{words, table, unknown}
 use Rattle.sentence.specs.Sentence.{digits, digit_count, decimal, sentence}
 use Rattle.sentence.specs.Recovered.{digit, leading, with, tells_number, recovered, ink, ended, Sentenced, Worded}
 use Rattle.sentence.proofs.Laws.{digits_length, decimal_length, digit_count_le, digit_count_small}
-use Rattle.sentence.proofs.Texts.{all, all_here, all_there, all_at, words_short}
+use Rattle.sentence.proofs.Texts.{all_here, all_there, all_at, words_short}
 
 -- ---- the number reader reads what the decimal writer wrote
 
@@ -69,23 +71,22 @@ digit_count_most n h = four (ltb n 10) (ltb n 100) (ltb n 1000) (ltb n 10000) (l
 
 -- ---- digits are digits
 
-all_append : (f : ℕ → Bool) (xs ys : List ℕ) → all f xs ≡ true → all f ys ≡ true → all f (xs ++ ys) ≡ true
-all_append f [] ys p q = q
-all_append f (x ∷ xs) ys p q = rw (all_here (f x) (all f xs) p) (all_append f xs ys (all_there (f x) (all f xs) p) q)
+all_append : (f : ℕ → Bool) (xs ys : List ℕ) → list_all f xs ≡ true → list_all f ys ≡ true → list_all f (xs ++ ys) ≡ true
+all_append f xs ys p q = rw (list_all-append, p, q)
 
 is_digit : (n : ℕ) → digit (48 + n % 10) ≡ true
 is_digit n = rw (le-leb 48 (48 + n % 10) (omega arith), le-leb (48 + n % 10) 57 (omega arith))
 
-all_digits : (w n : ℕ) → all digit (digits w n) ≡ true
+all_digits : (w n : ℕ) → list_all digit (digits w n) ≡ true
 unfolding digits
 all_digits zero n = refl
 all_digits (suc w) n = all_append digit (digits w (n / 10)) ((48 + n % 10) ∷ []) (all_digits w (n / 10)) (rw (is_digit n))
 
-number_digits : (max : ℕ) (l : List ℕ) → all digit l ≡ true → 0 < length l → read_number 10 max l ≡ read_from 10 max 0 l
+number_digits : (max : ℕ) (l : List ℕ) → list_all digit l ≡ true → 0 < length l → read_number 10 max l ≡ read_from 10 max 0 l
 unfolding read_number read_digits
 number_digits max [] h g = absurd (omega arith)
 number_digits max (b ∷ l) h g =
-    rw (ne_eqb b 43 (λ e. absurd (omega (arith, e, leb-true 48 b (all_here (leb 48 b) (leb b 57) (all_here (digit b) (all digit l) h))))))
+    rw (ne_eqb b 43 (λ e. absurd (omega (arith, e, leb-true 48 b (all_here (leb 48 b) (leb b 57) (all_here (digit b) (list_all digit l) h))))))
 
 digit_count_some : (n : ℕ) → 0 < digit_count n
 unfolding digit_count
@@ -110,24 +111,24 @@ read_decimal max n h g =
 ink_digit : (n : ℕ) → ink (48 + n % 10) ≡ true
 ink_digit n = rw (le-leb 32 (48 + n % 10) (omega arith), le-leb (48 + n % 10) 126 (omega arith), ne_eqb (48 + n % 10) 46 (λ e. absurd (omega (arith, e))))
 
-ink_digits : (w n : ℕ) → all ink (digits w n) ≡ true
+ink_digits : (w n : ℕ) → list_all ink (digits w n) ≡ true
 unfolding digits
 ink_digits zero n = refl
 ink_digits (suc w) n = all_append ink (digits w (n / 10)) ((48 + n % 10) ∷ []) (ink_digits w (n / 10)) (rw (ink_digit n))
 
-ink_decimal : (n : ℕ) → all ink (decimal n) ≡ true
+ink_decimal : (n : ℕ) → list_all ink (decimal n) ≡ true
 unfolding decimal
 ink_decimal n = ink_digits (digit_count n) n
 
-ink_words : (n : ℕ) → all ink (words n) ≡ true
+ink_words : (n : ℕ) → list_all ink (words n) ≡ true
 unfolding words table unknown
-ink_words n = all_at (all ink) unknown refl table refl n
+ink_words n = all_at (list_all ink) unknown refl table refl n
 
-ended_by : (l : List ℕ) → all ink l ≡ true → ended (l ++ (46 ∷ [])) ≡ true
+ended_by : (l : List ℕ) → list_all ink l ≡ true → ended (l ++ (46 ∷ [])) ≡ true
 unfolding ended
 ended_by [] h = refl
 ended_by (b ∷ []) h = rw (all_here (ink b) true h)
-ended_by (b ∷ c ∷ l) h = rw (all_here (ink b) (all ink (c ∷ l)) h) (ended_by (c ∷ l) (all_there (ink b) (all ink (c ∷ l)) h))
+ended_by (b ∷ c ∷ l) h = rw (all_here (ink b) (list_all ink (c ∷ l)) h) (ended_by (c ∷ l) (all_there (ink b) (list_all ink (c ∷ l)) h))
 
 -- past the table's end, and its first entry
 get_or_past : (ws : List (List ℕ)) (n : ℕ) (d : List ℕ) → length ws ≤ n → get_or ws n d ≡ d
@@ -141,12 +142,12 @@ first_unknown = refl
 
 -- ---- the four numbers
 
-leading_at : (xs : List ℕ) (b : ℕ) (l : List ℕ) → all digit xs ≡ true → digit b ≡ false → leading (xs ++ (b ∷ l)) ≡ xs
+leading_at : (xs : List ℕ) (b : ℕ) (l : List ℕ) → list_all digit xs ≡ true → digit b ≡ false → leading (xs ++ (b ∷ l)) ≡ xs
 unfolding leading
 leading_at [] b l h g = rw g
-leading_at (x ∷ xs) b l h g = rw (all_here (digit x) (all digit xs) h) (ap (λ (m : List ℕ). x ∷ m) (leading_at xs b l (all_there (digit x) (all digit xs) h) g))
+leading_at (x ∷ xs) b l h g = rw (all_here (digit x) (list_all digit xs) h) (ap (λ (m : List ℕ). x ∷ m) (leading_at xs b l (all_there (digit x) (list_all digit xs) h) g))
 
-all_decimal : (n : ℕ) → all digit (decimal n) ≡ true
+all_decimal : (n : ℕ) → list_all digit (decimal n) ≡ true
 unfolding decimal
 all_decimal n = all_digits (digit_count n) n
 
@@ -158,7 +159,7 @@ tells_number_law max k n b l f h g q =
     ∙ ap (λ (x : Number). with x (λ j. f j (drop (length (decimal n) + k) (decimal n ++ (b ∷ l))))) (read_decimal max n h g)
     ∙ ap (f n) (drop-append-add (decimal n) (b ∷ l) k)
   where
-    decimal_digits : all digit (decimal n) ≡ true
+    decimal_digits : list_all digit (decimal n) ≡ true
     decimal_digits = all_decimal n
 
 -- the sentence, from its first number on
@@ -218,7 +219,7 @@ module _ (r : Refusal) (a : r.number < 256) (b : r.start < 65536) (c : r.length 
       last_apart : told r (words r.number ++ ascii ".") ≡ told r (words r.number) ++ ascii "."
       last_apart = simp append_assoc
 
-      inked : all ink (told r (words r.number)) ≡ true
+      inked : list_all ink (told r (words r.number)) ≡ true
       inked =
           all_append ink (decimal r.number) _ (ink_decimal r.number)
           (all_append ink (decimal r.start) _ (ink_decimal r.start)

@@ -1,5 +1,4 @@
 pub mod Words
 pub mod Sentence
 pub mod Recovered
-pub mod Texts
 pub mod Examples

@@ -1,12 +1,10 @@
 -- Document 02, A1: the refusal as an English sentence in a lent buffer.
-use Rattle.std.specs.Prelude.{ℕ, zero, suc, ◌+◌, ◌/◌, ◌%◌, List, [], ◌∷◌, ◌++◌, ltb, length, drop}
+use Rattle.std.specs.Prelude.{ℕ, zero, suc, ◌+◌, ◌/◌, ◌%◌, List, [], ◌∷◌, ◌++◌, ltb, length, drop, Result, Ok, Err}
 use Rattle.base.specs.Pick.{pick}
 use Rattle.base.specs.Text.{ascii}
 use Rattle.refusal.specs.declared.Refusal.{Refusal}
 use Rattle.refusal.specs.Refusals.{refusal}
 use Rattle.sentence.specs.Words.{words}
-use Rattle.sentence.specs.declared.Told.{Told}
-use Rattle.sentence.specs.declared.Told.TheVariants.{Length, Refused}
 
 -- the last w decimal digits of n
 unfoldable pub digits : ℕ → ℕ → List ℕ
@@ -32,8 +30,8 @@ sentence r =
     ++ ascii "."
 
 -- "16, the buffer has fewer than 96 bytes, checked before anything is written"; "The answer is the sentence's length"
-unfoldable pub telling : Refusal → List ℕ → Told
-telling r lent = pick (ltb (length lent) 96) (Refused (refusal 16 0 0 0)) (Length (length (sentence r)))
+unfoldable pub telling : Refusal → List ℕ → Result ℕ Refusal
+telling r lent = pick (ltb (length lent) 96) (Err (refusal 16 0 0 0)) (Ok (length (sentence r)))
 
 -- the buffer after the call: "Bytes past the sentence stay"
 unfoldable pub buffer_after : Refusal → List ℕ → List ℕ

@@ -1,158 +1,114 @@
 // The refusal as an English sentence: document 02, A1.
 #![tactic(auto)]
 
-ghost use Rattle.std.specs.Prelude.{◌≡◌, ◌++◌, ◌+◌, ◌≤◌, ◌<◌, length, drop};
-ghost use Rattle.part.specs.Part.{past};
-ghost use Rattle.base.specs.Text.{ascii};
+ghost use Rattle.std.specs.Prelude.{◌≡◌, ◌++◌, ◌+◌, ◌≤◌, ◌<◌, length};
 ghost use Rattle.buffer.specs.Put.{Put};
 ghost use Rattle.sentence.specs.Words.{words};
 ghost use Rattle.sentence.specs.Sentence.{digit_count, decimal, telling, buffer_after};
-ghost use Rattle.sentence.specs.Texts.{skip, entry_in, From, PutMost};
 
 use refusal::Refusal;
 
-// The sentence's length, or a refusal.
-#[derive(Clone, Copy)]
-pub enum Told {
-    Length(u16),
-    Refused(Refusal),
-}
-
 // How many digits a number has.
+#[tactic(auto, unfolding(crate::specs::Sentence::digit_count))]
 fn digit_count(n: u16) -> usize
-    ensures { (result ≡ digit_count n) × (result ≤ 5) }
+    ensures count { result ≡ digit_count n }
+    ensures few { result ≤ 5 }
+    ensures small { n < 1000 → result ≤ 3 }
 {
-    if n < 10 {
-        return 1;
+    match n {
+        0..=9 => 1,
+        10..=99 => 2,
+        100..=999 => 3,
+        1000..=9999 => 4,
+        _ => 5,
     }
-    if n < 100 {
-        return 2;
-    }
-    if n < 1000 {
-        return 3;
-    }
-    if n < 10000 {
-        return 4;
-    }
-    5
-}
-
-// A number without leading zeros, from its last digit on.
-fn put_decimal(buffer: &mut [u8], at: usize, n: u16) -> usize
-    requires { at + 5 ≤ length buffer.old }
-    ensures { Put at (decimal n) buffer.old buffer.new result }
-{
-    let end = at + digit_count(n);
-    let mut m = n;
-    let mut k = end;
-    while at < k {
-        let digit = m % 10;
-        k -= 1;
-        buffer[k] = 48 + digit as u8;
-        m = m / 10;
-    }
-    end
-}
-
-// The place past the next full stop, or the end.
-fn past_stop(texts: &[u8], at: usize) -> usize
-    requires { at ≤ length texts.now }
-    ensures { From texts.now (past 46 (drop at texts.now)) result }
-{
-    let s = &texts[at..];
-    let k = part::find(s, b'.');
-    if k < s.len() {
-        return at + k + 1;
-    }
-    texts.len()
-}
-
-// Where text number n starts, or the end.
-fn nth(texts: &[u8], n: u8) -> usize
-    ensures { From texts.now (skip n texts.now) result }
-{
-    let mut at: usize = 0;
-    let mut left = n;
-    while 0 < left {
-        at = past_stop(texts, at);
-        left -= 1;
-    }
-    at
-}
-
-// Texts stand one after the other, a full stop after each: text number n, or the first where there are fewer.
-fn entry(texts: &[u8], n: u8) -> &[u8]
-    ensures { result.now ≡ entry_in texts.now n }
-{
-    let at = nth(texts, n);
-    if at < texts.len() {
-        return part::first_part(&texts[at..], b'.');
-    }
-    part::first_part(texts, b'.')
 }
 
 // The words of a number.
-fn put_words(buffer: &mut [u8], at: usize, number: u8) -> usize
-    requires { at + 40 ≤ length buffer.old }
-    ensures { PutMost 40 at (words number) buffer.old buffer.new result }
+#[tactic(auto, unfolding(crate::specs::Words::words, crate::specs::Words::table, crate::specs::Words::unknown))]
+fn words(number: u8) -> &'static [u8]
+    ensures { (result.now ≡ words number) × (length result.now ≤ 40) }
 {
-    let text = entry(
-        b"unknown.\
-        sign file is damaged, load it again.\
-        message is over 2,048 bytes, shorten it.\
-        message is not UTF-8, type it again.\
-        room is too small, or offset is wrong.\
-        tag is unknown, or not for this board.\
-        value in this tag cannot be used here.\
-        text has a character no board can show.\
-        too many lines, or texts in one line.\
-        justification goes back, change order.\
-        font is not on this board.\
-        font has another version on this board.\
-        character is not in this font.\
-        text does not fit its rectangle.\
-        font is too tall for this line grid.\
-        too many text rectangles on one page.\
-        room for the sentence is too small.",
-        number,
-    );
-    buffer::put(buffer, at, text)
+    match number {
+        1 => b"sign file is damaged, load it again",
+        2 => b"message is over 2,048 bytes, shorten it",
+        3 => b"message is not UTF-8, type it again",
+        4 => b"room is too small, or offset is wrong",
+        5 => b"tag is unknown, or not for this board",
+        6 => b"value in this tag cannot be used here",
+        7 => b"text has a character no board can show",
+        8 => b"too many lines, or texts in one line",
+        9 => b"justification goes back, change order",
+        10 => b"font is not on this board",
+        11 => b"font has another version on this board",
+        12 => b"character is not in this font",
+        13 => b"text does not fit its rectangle",
+        14 => b"font is too tall for this line grid",
+        15 => b"too many text rectangles on one page",
+        16 => b"room for the sentence is too small",
+        _ => b"unknown",
+    }
 }
 
-// A text, and a number after it.
-fn put_field(buffer: &mut [u8], at: usize, text: &[u8], n: u16) -> usize
-    requires { at + length text.now + 5 ≤ length buffer.old }
-    ensures { PutMost (length text.now + 5) at (text.now ++ decimal n) buffer.old buffer.new result }
-{
-    let k = buffer::put(buffer, at, text);
-    put_decimal(buffer, k, n)
+// A text in a lent buffer, as far as it is written.
+#[derive(Drop)]
+struct Writer<'a> {
+    buffer: &'a mut [u8],
+    len: usize,
 }
 
-// The sentence's beginning, with the number.
-fn put_number(buffer: &mut [u8], number: u8) -> usize
-    requires { 96 ≤ length buffer.old }
-    ensures { PutMost 11 0 (ascii "Refusal " ++ decimal number) buffer.old buffer.new result }
-{
-    put_field(buffer, 0, b"Refusal ", base::wide16(number))
+impl Writer<'_> {
+    fn put(&mut self, text: &[u8])
+        requires { self.old.len + length text.now ≤ length self.old.buffer.now }
+        ensures put { Put self.old.len text.now self.old.buffer.now self.new.buffer.now self.new.len }
+        ensures same { self.new.buffer.ghost_name ≡ self.old.buffer.ghost_name }
+    {
+        self.len = buffer::put(self.buffer, self.len, text);
+    }
+
+    // A number without leading zeros, from its last digit on.
+    #[tactic(auto, using(crate::proofs::Laws::count_start))]
+    fn put_decimal(&mut self, n: u16)
+        requires { self.old.len + 5 ≤ length self.old.buffer.now }
+        ensures put { Put self.old.len (decimal n) self.old.buffer.now self.new.buffer.now self.new.len }
+        ensures same { self.new.buffer.ghost_name ≡ self.old.buffer.ghost_name }
+        ensures few { self.new.len ≤ self.old.len + 5 }
+        ensures small { n < 1000 → self.new.len ≤ self.old.len + 3 }
+    {
+        let end = self.len + digit_count(n);
+        let mut m = n;
+        for k in (self.len..end).rev() {
+            self.buffer[k] = b'0' + (m % 10) as u8;
+            m /= 10;
+        }
+        self.len = end;
+    }
 }
 
 // The refusal's sentence in the lent buffer: its length.
-pub fn sentence(r: Refusal, buffer: &mut [u8]) -> Told
+#[tactic(auto, unfolding(crate::specs::Sentence::telling, crate::specs::Sentence::buffer_after))]
+pub fn sentence(r: Refusal, buffer: &mut [u8]) -> Result<u16, Refusal>
     ensures { (result ≡ telling r buffer.old) × (buffer.new ≡ buffer_after r buffer.old) }
 {
     if buffer.len() < 96 {
-        return Told::Refused(Refusal {
+        return Err(Refusal {
             number: 16,
             start: 0,
             length: 0,
             detail: 0,
         });
     }
-    let number = put_number(buffer, r.number);
-    let start = put_field(buffer, number, b" at byte ", r.start);
-    let length = put_field(buffer, start, b", length ", r.length);
-    let detail = put_field(buffer, length, b", detail ", r.detail);
-    let colon = buffer::put(buffer, detail, b": ");
-    let end = put_words(buffer, colon, r.number);
-    Told::Length(buffer::put(buffer, end, b".") as u16)
+    let mut out = Writer { buffer, len: 0 };
+    out.put(b"Refusal ");
+    out.put_decimal(u16::from(r.number));
+    out.put(b" at byte ");
+    out.put_decimal(r.start);
+    out.put(b", length ");
+    out.put_decimal(r.length);
+    out.put(b", detail ");
+    out.put_decimal(r.detail);
+    out.put(b": ");
+    out.put(words(r.number));
+    out.put(b".");
+    Ok(out.len as u16)
 }

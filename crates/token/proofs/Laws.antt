@@ -1,139 +1,61 @@
--- The tokenizer's ways on and out, as the code has them, and the laws of slices for the layers above.
-use Prim.Native.Nat.{ℕ, zero, suc, ◌+◌, ◌-◌, ◌≤◌, ◌<◌}
-use mathlib.Core.Path.{◌≡◌, refl, sym, ◌∙◌, ap}
-use mathlib.Core.List.{List, [], ◌∷◌}
-use mathlib.Core.Bool.{Bool, true, false}
-use native.Mathlib.Nat.{add-zero, add-sub_cancel_left}
-use native.Mathlib.Omega.{arith}
-use borrow.Author.Tests.{eqb-true}
+-- The tokenizer's searches, and the laws of slices for the layers above.
+use Rattle.std.proofs.Common.{ℕ, zero, suc, ◌+◌, ◌-◌, ◌≤◌, ◌<◌, ◌≡◌, refl, sym, ◌∙◌, ap, List, [], ◌∷◌, length, get_or, take, drop, Bool, true, false, cond, ◌||◌, add-zero, arith, length-drop}
+use Rattle.std.specs.Prelude.{nat_lt, not, unwrap_or, Some, None}
+use Rattle.std.specs.List.{position, position_or_len}
+use Rattle.std.proofs.lemmas.List.Sums.{prefix_len-le-length}
+use Rattle.std.proofs.lemmas.List.Recursion.{is_position_or_len}
+use native.Mathlib.Nat.{add-sub_cancel_left}
+use borrow.Author.Tests.{eqb-true, ltb-false}
 use lib.Dec.{eqb}
-use lib.ListN.{length, get_or, take, drop, take-append-drop, drop_of_length-le, length-drop}
-use lib.Seq.{drop-drop, get_or-drop}
+use lib.ListN.{take-append-drop, drop_of_length-le}
+use lib.Seq.{drop-drop}
 use Rattle.base.specs.Pick.{pick, picks}
-use Rattle.base.specs.Lists.{drop_step, past_end, inside}
-use Rattle.token.specs.Token.{plain_len, tag_len, rest_len, slice_len, Slice, cuts, slices, joined, last_byte}
+use Rattle.base.specs.Lists.{drop_step, inside}
+use Rattle.token.specs.Token.{plain_len, tag_len, rest_len, slice_len, Slice, cuts, slices, joined}
 
 -- ---- the search for a bracket
 
-module _ (i w : ℕ) (l : List ℕ) (inv : i + plain_len (drop i l) ≡ w) where
-  module _ (h : i < length l) where
-    pub plain_open : get_or l i 0 ≡ 91 → i ≡ w
-    unfolding plain_len
-    plain_open p = omega (arith, here)
+abbrev pub bracket : ℕ → Bool
+bracket b = eqb b 91 || eqb b 93
+
+pub plain_is : (l : List ℕ) → plain_len l ≡ position_or_len bracket l
+unfolding plain_len
+plain_is l = is_position_or_len plain_len bracket refl step l
+  where
+    step : (b : ℕ) (l : List ℕ) → plain_len (b ∷ l) ≡ cond (bracket b) 0 (1 + plain_len l)
+    step b l = go (eqb b 91) (eqb b 93)
       where
-        here : 0 ≡ plain_len (drop i l)
-        here = rw (drop_step l i h) (search picks depth 9)
+        go : (t u : Bool) → pick t 0 (pick u 0 (suc (plain_len l))) ≡ cond (t || u) 0 (1 + plain_len l)
+        go true u = refl
+        go false true = refl
+        go false false = omega arith
 
-    pub plain_close : (get_or l i 0 ≡ 91 → ⊥) → get_or l i 0 ≡ 93 → i ≡ w
-    unfolding plain_len
-    plain_close n p = omega (arith, here)
-      where
-        here : 0 ≡ plain_len (drop i l)
-        here = rw (drop_step l i h) (search picks depth 9)
+-- the place of the first bracket, or the end
+pub place_is : (l : List ℕ) → unwrap_or (position bracket l) (length l) ≡ plain_len l
+place_is l = rw (plain_is l) (go (nat_lt n (length l)) refl)
+  where
+    n : ℕ
+    n = position_or_len bracket l
 
-    pub plain_on : (get_or l i 0 ≡ 91 → ⊥) → (get_or l i 0 ≡ 93 → ⊥) → i + 1 + plain_len (drop (i + 1) l) ≡ w
-    unfolding plain_len
-    plain_on n m = omega (arith, here)
-      where
-        here : suc (plain_len (drop (i + 1) l)) ≡ plain_len (drop i l)
-        here = rw (drop_step l i h) (search picks depth 9)
-
-  pub plain_stop : length l ≤ i → i ≡ w
-  unfolding plain_len
-  plain_stop h = omega (arith, here)
-    where
-      here : 0 ≡ plain_len (drop i l)
-      here = rw (drop_of_length-le l h)
-
-pub ruleset plain_ways = (plain_open, plain_close, plain_on, plain_stop)
-
--- ---- bytes
-
-pub last_none : (l : List ℕ) → length l ≡ 0 → 0 ≡ last_byte l
-unfolding last_byte
-last_none l e = past_end l (length l - 1) (omega arith)
+    go : (t : Bool) → nat_lt n (length l) ≡ t → unwrap_or (cond t (Some n) None) (length l) ≡ n
+    go true e = refl
+    go false e = omega (arith, ltb-false n (length l) e, prefix_len-le-length (λ b. not (bracket b)) l)
 
 -- ---- the end of a slice
 
-module _ (at : ℕ) (l : List ℕ) where
-  pub slice_stop : length l ≤ at → at ≡ at + slice_len (drop at l)
-  unfolding slice_len
-  slice_stop h = omega (arith, here)
-    where
-      here : 0 ≡ slice_len (drop at l)
-      here = rw (drop_of_length-le l h)
+-- a slice is its first byte and those that follow
+pub slice_is : (l : List ℕ) → 0 < length l → slice_len l ≡ 1 + rest_len (get_or l 0 0) (drop 1 l)
+unfolding slice_len
+slice_is [] h = absurd (omega arith)
+slice_is (b ∷ l) h = omega arith
 
-  module _ (h : at < length l) where
-    slice_is : at + 1 + rest_len (get_or l at 0) (drop (at + 1) l) ≡ at + slice_len (drop at l)
-    unfolding slice_len
-    slice_is = omega (arith, here)
-      where
-        here : suc (rest_len (get_or l at 0) (drop (at + 1) l)) ≡ slice_len (drop at l)
-        here = rw (drop_step l at h)
-
-    second_is : get_or (drop (at + 1) l) 0 0 ≡ get_or l (at + 1) 0
-    second_is = get_or-drop (at + 1) l 0 0 ∙ ap (λ (k : ℕ). get_or l k 0) (add-zero (at + 1))
-
-    module _ (s : ℕ) (e : s ≡ get_or l (at + 1) 0) where
-      pub open_double : get_or l at 0 ≡ 91 → s ≡ 91 → at + 1 + 1 ≡ at + slice_len (drop at l)
-      unfolding rest_len
-      open_double p q = omega (arith, slice_is, here)
-        where
-          here : 1 ≡ rest_len (get_or l at 0) (drop (at + 1) l)
-          here = rw (second_is, ← e) (search picks depth 9)
-
-      open_tag : get_or l at 0 ≡ 91 → (s ≡ 91 → ⊥) → at + 1 + tag_len (drop (at + 1) l) ≡ at + slice_len (drop at l)
-      unfolding rest_len
-      open_tag p q = omega (arith, slice_is, here)
-        where
-          here : tag_len (drop (at + 1) l) ≡ rest_len (get_or l at 0) (drop (at + 1) l)
-          here = rw (second_is, ← e) (search picks depth 9)
-
-      -- w is where the bracket search ended, x the byte there
-      module _ (p : get_or l at 0 ≡ 91) (q : s ≡ 91 → ⊥) (w x : ℕ) (k : w ≡ at + 1 + plain_len (drop (at + 1) l)) (f : x ≡ get_or l w 0) where
-        byte_is : x ≡ get_or (drop (at + 1) l) (plain_len (drop (at + 1) l)) 0
-        byte_is = f ∙ rw k (sym (get_or-drop (at + 1) l (plain_len (drop (at + 1) l)) 0))
-
-        pub open_closed : x ≡ 93 → w + 1 ≡ at + slice_len (drop at l)
-        unfolding tag_len
-        open_closed y = omega (arith, open_tag p q, here)
-          where
-            here : suc (plain_len (drop (at + 1) l)) ≡ tag_len (drop (at + 1) l)
-            here = rw (← byte_is) (search picks depth 6)
-
-        pub open_unclosed : (x ≡ 93 → ⊥) → w ≡ at + slice_len (drop at l)
-        unfolding tag_len
-        open_unclosed n = omega (arith, open_tag p q, here)
-          where
-            here : plain_len (drop (at + 1) l) ≡ tag_len (drop (at + 1) l)
-            here = rw (← byte_is) (search picks depth 6)
-
-      pub close_double : (get_or l at 0 ≡ 91 → ⊥) → get_or l at 0 ≡ 93 → s ≡ 93 → at + 1 + 1 ≡ at + slice_len (drop at l)
-      unfolding rest_len
-      close_double n p q = omega (arith, slice_is, here)
-        where
-          here : 1 ≡ rest_len (get_or l at 0) (drop (at + 1) l)
-          here = rw (second_is, ← e) (search picks depth 9)
-
-      pub close_single : (get_or l at 0 ≡ 91 → ⊥) → get_or l at 0 ≡ 93 → (s ≡ 93 → ⊥) → at + 1 ≡ at + slice_len (drop at l)
-      unfolding rest_len
-      close_single n p q = omega (arith, slice_is, here)
-        where
-          here : 0 ≡ rest_len (get_or l at 0) (drop (at + 1) l)
-          here = rw (second_is, ← e) (search picks depth 9)
-
-    pub text : (r : ℕ) → (get_or l at 0 ≡ 91 → ⊥) → (get_or l at 0 ≡ 93 → ⊥) → r ≡ at + 1 + plain_len (drop (at + 1) l) → r ≡ at + slice_len (drop at l)
-    unfolding rest_len
-    text r n m k = omega (arith, slice_is, here)
-      where
-        here : plain_len (drop (at + 1) l) ≡ rest_len (get_or l at 0) (drop (at + 1) l)
-        here = search picks depth 9
-
-pub ruleset slice_ways = (slice_stop, open_double, open_closed, open_unclosed, close_double, close_single, text)
+pub slice_past : (at : ℕ) (l : List ℕ) → length l ≤ at → slice_len (drop at l) ≡ 0
+unfolding slice_len
+slice_past at l h = rw (drop_of_length-le l h)
 
 -- ---- a slice lies within the message
 
-plain_le : (l : List ℕ) → plain_len l ≤ length l
+pub plain_le : (l : List ℕ) → plain_len l ≤ length l
 unfolding plain_len
 plain_le [] = omega arith
 plain_le (b ∷ l) = go (eqb b 91) (eqb b 93) (plain_le l)
@@ -152,7 +74,7 @@ more_le b l n m p h k = go (eqb (get_or l n 0) b) refl
     go true e = inside l n b (sym (eqb-true (get_or l n 0) b e)) p
     go false e = k
 
-tag_le : (l : List ℕ) → tag_len l ≤ length l
+pub tag_le : (l : List ℕ) → tag_len l ≤ length l
 unfolding tag_len
 tag_le l = more_le 93 l (plain_len l) (plain_len l) (omega arith) (omega (arith, plain_le l)) (plain_le l)
 
@@ -170,6 +92,8 @@ pub slice_le : (l : List ℕ) → slice_len l ≤ length l
 unfolding slice_len
 slice_le [] = omega arith
 slice_le (b ∷ l) = omega (arith, rest_le b l)
+
+pub ruleset slice_ways = (slice_is, slice_past, slice_le, tag_le, plain_le)
 
 -- ---- the list of slices
 
@@ -219,10 +143,10 @@ module _ (at : ℕ) (l : List ℕ) (h : at < length l) (r : ℕ) (e : r ≡ at +
 
   -- a slice has a byte or more
   pub next_more : at < r
-  next_more = omega (arith, slice_is at l h)
+  next_more = omega (arith, e, slice_is (drop at l) left)
 
   pub next_less : length l - r < length l - at
-  next_less = omega (arith, slice_is at l h)
+  next_less = omega (arith, next_more)
 
 -- ---- after a text comes a bracket, or the end
 

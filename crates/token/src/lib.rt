@@ -2,7 +2,7 @@
 #![tactic(auto)]
 
 ghost use Rattle.std.specs.Prelude.{◌≡◌, ◌+◌, drop};
-ghost use Rattle.token.specs.Token.{plain_len, slice_len, is_pair, last_byte, shape_of};
+ghost use Rattle.token.specs.Token.{plain_len, tag_len, slice_len, shape_of};
 
 // What a slice is, as `Value::try_from` tells it.
 // Bracket: [[ or ]]. Tag: from [ to ]. Stray: a [ without its ], or a lone ].
@@ -14,96 +14,65 @@ pub enum Shape {
     Text,
 }
 
-// The place of the first bracket from a place on, or the end.
-fn bracket_from(msg: &[u8], from: usize) -> usize
-    ensures { result ≡ from + plain_len (drop from msg.now) }
+// The bytes before the first bracket.
+fn plain_len(s: &[u8]) -> usize
+    ensures { result ≡ plain_len s.now }
 {
-    let mut i = from;
-    while i < msg.len() {
-        let b = msg[i];
-        if b == b'[' {
-            return i;
-        }
-        if b == b']' {
-            return i;
-        }
-        i += 1;
+    s.iter()
+        .position(|b| matches!(b, b'[' | b']'))
+        .unwrap_or(s.len())
+}
+
+// The bytes of a tag that follow its [.
+#[tactic(auto, unfolding(crate::specs::Token::tag_len))]
+fn tag_len(s: &[u8]) -> usize
+    ensures { result ≡ tag_len s.now }
+{
+    let n = plain_len(s);
+    if base::byte_at(s, n) == b']' {
+        n + 1
+    } else {
+        n
     }
-    i
+}
+
+// The length of the first slice.
+#[tactic(auto, using(crate::proofs::Laws::slice_ways), unfolding(crate::specs::Token::rest_len))]
+fn slice_len(s: &[u8]) -> usize
+    ensures { result ≡ slice_len s.now }
+{
+    let Some((first, rest)) = s.split_first() else {
+        return 0;
+    };
+    match (*first, base::byte_at(rest, 0)) {
+        (b'[', b'[') | (b']', b']') => 2,
+        (b'[', _) => 1 + tag_len(rest),
+        (b']', _) => 1,
+        _ => 1 + plain_len(rest),
+    }
 }
 
 // `MultiStr::next_slice`: the end of the slice that starts at a place.
+#[tactic(auto, using(crate::proofs::Laws::slice_ways))]
 pub fn slice_end(msg: &[u8], at: usize) -> usize
     ensures { result ≡ at + slice_len (drop at msg.now) }
 {
-    if msg.len() <= at {
-        return at;
+    if at < msg.len() {
+        at + slice_len(&msg[at..])
+    } else {
+        at
     }
-    let b = msg[at];
-    let next = at + 1;
-    let second = base::byte_at(msg, next);
-    if b == b'[' {
-        if second == b'[' {
-            return next + 1;
-        }
-        let end = bracket_from(msg, next);
-        if base::byte_at(msg, end) == b']' {
-            return end + 1;
-        }
-        return end;
-    }
-    if b == b']' {
-        if second == b']' {
-            return next + 1;
-        }
-        return next;
-    }
-    bracket_from(msg, next)
-}
-
-// Whether the bytes are two brackets b.
-fn is_pair(s: &[u8], b: u8) -> bool
-    ensures { result ≡ is_pair b s.now }
-{
-    if s.len() == 2 {
-        if s[0] == b {
-            return s[1] == b;
-        }
-        return false;
-    }
-    false
-}
-
-// The last byte, 0 where there is none.
-fn last_byte(s: &[u8]) -> u8
-    ensures { result ≡ last_byte s.now }
-{
-    if s.len() == 0 {
-        return 0;
-    }
-    let last = s.len() - 1;
-    s[last]
 }
 
 // The shape of a slice.
+#[tactic(auto, unfolding(crate::specs::Token::shape_of, crate::specs::Token::is_pair, crate::specs::Token::last_byte))]
 pub fn shape_of(s: &[u8]) -> Shape
     ensures { result ≡ shape_of s.now }
 {
-    if is_pair(s, b'[') {
-        return Shape::Bracket;
+    match s {
+        b"[[" | b"]]" => Shape::Bracket,
+        [b'[', .., b']'] => Shape::Tag,
+        [b'[' | b']', ..] => Shape::Stray,
+        _ => Shape::Text,
     }
-    if is_pair(s, b']') {
-        return Shape::Bracket;
-    }
-    let first = base::byte_at(s, 0);
-    if first == b'[' {
-        if last_byte(s) == b']' {
-            return Shape::Tag;
-        }
-        return Shape::Stray;
-    }
-    if first == b']' {
-        return Shape::Stray;
-    }
-    Shape::Text
 }

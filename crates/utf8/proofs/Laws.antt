@@ -1,103 +1,56 @@
 -- The ways on and out of the loops, and the code points one by one.
-use Prim.Native.Nat.{ℕ, zero, suc, ◌+◌, ◌-◌, ◌*◌, ◌%◌, ◌≤◌, ◌<◌}
-use mathlib.Core.Path.{◌≡◌, refl, sym, ◌∙◌, ap}
-use mathlib.Core.List.{List, [], ◌∷◌}
-use mathlib.Core.Bool.{Bool, true, false}
-use native.Mathlib.Omega.{arith}
-use borrow.Author.Tests.{ltb-true, ltb-false, lt-ltb, le-ltb, not-true, not-false}
-use lib.Dec.{ltb, eqb}
-use lib.ListN.{length, get_or, drop, drop_of_length-le}
+use Rattle.std.proofs.Common.{ℕ, zero, suc, ◌+◌, ◌-◌, ◌*◌, ◌%◌, ◌≤◌, ◌<◌, min, max, ◌≡◌, refl, sym, ◌∙◌, ap, List, [], ◌∷◌, length, get_or, take, drop, Bool, true, false, ◌&&◌, arith}
+use Rattle.std.proofs.lemmas.Bool.Decides.{nat_tests}
+use Rattle.std.specs.List.{list_all}
+use lib.Dec.{ltb, leb, eqb}
+use lib.ListN.{drop_of_length-le}
 use lib.Seq.{get_or-drop, drop-drop}
 use Rattle.base.specs.Pick.{pick, picks}
-use Rattle.base.specs.Lists.{drop_step, past_end}
+use Rattle.base.specs.Lists.{drop_step, rest_is}
 use Rattle.utf8.specs.declared.Due.{Due}
 use Rattle.utf8.specs.declared.Code.{Code}
-use Rattle.utf8.specs.Utf8.{extra, due, fits, after_byte, well_formed_from, all_ascii, bits, code_of, codes_from, codes, coded, code_at, all_latin1}
-
--- `after_byte`
-pub due_same : (k lo hi k' lo' hi' : ℕ) → k ≡ k' → lo ≡ lo' → hi ≡ hi' → due k lo hi ≡ due k' lo' hi'
-due_same k lo hi k' lo' hi' p q r = rw (p, q, r)
+use Rattle.utf8.specs.Utf8.{extra, fits, after_byte, well_formed_from, all_ascii, bits, code_of, codes_from, codes, coded, code_at, all_latin1}
 
 -- `walk`
-module _ (l : List ℕ) (i : ℕ) (d : Due) (w : Bool) (inv : well_formed_from d (drop i l) ≡ w) where
-  module _ (h : i < length l) (t : Bool) (e : t ≡ fits d (get_or l i 0)) where
-    here : pick t (well_formed_from (after_byte d (get_or l i 0)) (drop (i + 1) l)) false ≡ w
+module _ (d : Due) (l : List ℕ) (i : ℕ) where
+  module _ (h : i < length l) where
+    pub formed_on : fits d (get_or l i 0) ≡ true → well_formed_from (after_byte d (get_or l i 0)) (drop (i + 1) l) ≡ well_formed_from d (drop i l)
     unfolding well_formed_from
-    here = rw e (rw (drop_step l i h) at inv)
+    formed_on e = rw (drop_step l i h, e)
 
-    pub formed_bad : t ≡ false → false ≡ w
-    formed_bad p = rw p at here
+    pub formed_bad : fits d (get_or l i 0) ≡ false → well_formed_from d (drop i l) ≡ false
+    unfolding well_formed_from
+    formed_bad e = rw (drop_step l i h, e)
 
-    pub formed_on : (f : Due) → t ≡ true → f ≡ after_byte d (get_or l i 0) → well_formed_from f (drop (i + 1) l) ≡ w
-    formed_on f p q = rw q (rw p at here)
-
-  pub formed_end : length l ≤ i → eqb d.left 0 ≡ w
+  pub formed_end : length l ≤ i → well_formed_from d (drop i l) ≡ eqb d.left 0
   unfolding well_formed_from
-  formed_end h = rw (drop_of_length-le l h) at inv
+  formed_end h = rw (drop_of_length-le l h)
 
-pub ruleset formed_ways = (formed_bad, formed_on, formed_end, not-true, not-false)
+pub ruleset formed_ways = (formed_on, formed_bad, formed_end)
 
--- `ascii`: the larger of two bytes is ASCII where both are
-larger_both : (m b : ℕ) (x : Bool) → pick (ltb (pick (ltb m b) b m) 128) x false ≡ pick (ltb m 128) (pick (ltb b 128) x false) false
-larger_both m b x = go (ltb m b) (ltb m 128) (ltb b 128) refl refl refl
-  where
-    go : (t u v : Bool) → ltb m b ≡ t → ltb m 128 ≡ u → ltb b 128 ≡ v → pick (ltb (pick t b m) 128) x false ≡ pick u (pick v x false) false
-    go true true v e f g = rw g
-    go true false v e f g = rw (le-ltb b 128 (omega (arith, ltb-true m b e, ltb-false m 128 f)))
-    go false false v e f g = rw f
-    go false true true e f g = rw f
-    go false true false e f g = absurd (omega (arith, ltb-false m b e, ltb-true m 128 f, ltb-false b 128 g))
+-- `ascii`: whether the bytes are, where k is the least and m the largest of those before them
+unfoldable pub ascii_from : ℕ → ℕ → ℕ → List ℕ → Bool
+ascii_from from k m l = pick (ltb k from) false (pick (ltb m 128) (all_ascii from l) false)
 
--- and the smaller is at or past a code where both are
-smaller_both : (k b from : ℕ) (x : Bool) → pick (ltb (pick (ltb b k) b k) from) false x ≡ pick (ltb k from) false (pick (ltb b from) false x)
-smaller_both k b from x = go (ltb b k) (ltb k from) (ltb b from) refl refl refl
-  where
-    go : (t u v : Bool) → ltb b k ≡ t → ltb k from ≡ u → ltb b from ≡ v → pick (ltb (pick t b k) from) false x ≡ pick u false (pick v false x)
-    go true true v e f g = rw (lt-ltb b from (omega (arith, ltb-true b k e, ltb-true k from f)))
-    go true false v e f g = rw g
-    go false true v e f g = rw f
-    go false false true e f g = absurd (omega (arith, ltb-false b k e, ltb-false k from f, ltb-true b from g))
-    go false false false e f g = rw f
+module _ (from : ℕ) where
+  pub ascii_start : (l : List ℕ) → from ≤ 255 → ascii_from from 255 0 l ≡ all_ascii from l
+  unfolding ascii_from
+  ascii_start l h = grind (arith, nat_tests)
 
-exchanged : (t u x : Bool) → pick t false (pick u x false) ≡ pick u (pick t false x) false
-exchanged true true x = refl
-exchanged true false x = refl
-exchanged false true x = refl
-exchanged false false x = refl
+  both_ends : (k m b : ℕ) (x : Bool) → pick (ltb (min k b) from) false (pick (ltb (max m b) 128) x false)
+      ≡ pick (ltb k from) false (pick (ltb m 128) (pick (ltb b from) false (pick (ltb b 128) x false)) false)
+  both_ends k m b x = grind (arith, nat_tests)
 
-module _ (l : List ℕ) (from i k m : ℕ) (w : Bool) (inv : pick (ltb k from) false (pick (ltb m 128) (all_ascii from (drop i l)) false) ≡ w) where
-  pub ascii_on : i < length l → (j r : ℕ) → j ≡ pick (ltb (get_or l i 0) k) (get_or l i 0) k → r ≡ pick (ltb m (get_or l i 0)) (get_or l i 0) m
-      → pick (ltb j from) false (pick (ltb r 128) (all_ascii from (drop (i + 1) l)) false) ≡ w
-  unfolding all_ascii
-  ascii_on h j r d e =
-      let b : ℕ = get_or l i 0 in
-      let x : Bool = all_ascii from (drop (i + 1) l) in
-      rw (d, e)
-      (smaller_both k b from (pick (ltb (pick (ltb m b) b m) 128) x false)
-      ∙ ap (λ (y : Bool). pick (ltb k from) false (pick (ltb b from) false y)) (larger_both m b x)
-      ∙ ap (λ (y : Bool). pick (ltb k from) false y) (exchanged (ltb b from) (ltb m 128) (pick (ltb b 128) x false))
-      ∙ (rw (drop_step l i h) at inv))
+  pub ascii_on : (k m : ℕ) (l : List ℕ) (i : ℕ) → i < length l
+      → ascii_from from (min k (get_or l i 0)) (max m (get_or l i 0)) (drop (i + 1) l) ≡ ascii_from from k m (drop i l)
+  unfolding ascii_from all_ascii
+  ascii_on k m l i h = rw (drop_step l i h) (both_ends k m (get_or l i 0) (all_ascii from (drop (i + 1) l)))
 
-  module _ (h : length l ≤ i) where
-    last : pick (ltb k from) false (pick (ltb m 128) true false) ≡ w
-    unfolding all_ascii
-    last = rw (drop_of_length-le l h) at inv
+  pub ascii_end : (k m : ℕ) (l : List ℕ) (i : ℕ) → length l ≤ i → ascii_from from k m (drop i l) ≡ pick (leb from k) (ltb m 128) false
+  unfolding ascii_from all_ascii
+  ascii_end k m l i h = rw (drop_of_length-le l h) (grind (arith, nat_tests))
 
-    pub ascii_low : k < from → false ≡ w
-    ascii_low p = rw (lt-ltb k from p) at last
-
-    pub ascii_end : from ≤ k → ltb m 128 ≡ w
-    ascii_end p = alone (ltb m 128) ∙ (rw (le-ltb k from p) at last)
-      where
-        alone : (t : Bool) → t ≡ pick t true false
-        alone true = refl
-        alone false = refl
-
--- where the loop begins
-pub ascii_start : (l : List ℕ) (from : ℕ) → from ≤ 255 → pick (ltb 255 from) false (all_ascii from l) ≡ all_ascii from l
-ascii_start l from h = rw (le-ltb 255 from h)
-
-pub ruleset ascii_ways = (ascii_on, ascii_low, ascii_end)
+pub ruleset ascii_ways = (ascii_start, ascii_on, ascii_end)
 
 -- `code_at`
 pub extra_1 : (b : ℕ) → b < 192 → 0 ≡ extra b
@@ -125,10 +78,6 @@ module _ (l : List ℕ) (at : ℕ) where
   unfolding code_at
   code_is b x n e p q = rw (p, q, e)
 
-  pub code_out : length l ≤ at → coded 0 1 ≡ code_at l at
-  unfolding code_of extra
-  code_out h = code_is 0 0 0 (past_end l at h) refl refl
-
   module _ (b : ℕ) (e : b ≡ get_or l at 0) where
     pub code_1 : b < 192 → coded b 1 ≡ code_at l at
     unfolding code_of
@@ -153,7 +102,7 @@ module _ (l : List ℕ) (at : ℕ) where
             (rw (← bits_from 0 (at + 1) (omega arith), ← p, ← bits_from 1 (at + 2) (omega arith), ← q, ← bits_from 2 (at + 3) (omega arith), ← r)
             (search picks depth 8)) (extra_4 b f g h)
 
-pub ruleset code_ways = (code_out, code_1, code_2, code_3, code_4)
+pub ruleset code_ways = (code_1, code_2, code_3, code_4)
 
 -- bytes to skip are bytes dropped
 skips : (k : ℕ) (l : List ℕ) → codes_from k l ≡ codes_from 0 (drop k l)
@@ -206,26 +155,24 @@ module _ (l : List ℕ) (at : ℕ) (r : Code) (e : r ≡ code_at l at) where
     pub code_less : length l - (at + r.len) < length l - at
     code_less = omega (arith, len_is)
 
--- `walk_latin1`
-module _ (l : List ℕ) (at : ℕ) (w : Bool) (inv : all_latin1 (codes (drop at l)) ≡ w) where
-  module _ (h : at < length l) (r : Code) (e : r ≡ code_at l at) where
-    all : all_latin1 (r.code ∷ codes (drop (at + r.len) l)) ≡ w
-    all = rw (codes_next l at r e h) at inv
+-- the first code point of a text, and what `next` leaves
+pub codes_first : (l : List ℕ) (k : ℕ) → 0 < length l → k ≡ min (code_at l 0).len (length l)
+    → codes l ≡ (code_at l 0).code ∷ codes (take (length l - k) (drop k l))
+codes_first l k h e = rw (rest_is l k, cut) (codes_next l 0 (code_at l 0) refl h)
+  where
+    n : ℕ
+    n = (code_at l 0).len
 
-    pub latin1_low : r.code < 1 → false ≡ w
-    unfolding all_latin1
-    latin1_low p = search picks depth 4 ∙ all
+    cut : drop k l ≡ drop (0 + n) l
+    cut = grind (arith, drop_of_length-le)
 
-    pub latin1_high : 1 ≤ r.code → 255 < r.code → false ≡ w
-    unfolding all_latin1
-    latin1_high p q = search picks depth 6 ∙ all
+pub codes_none : (l : List ℕ) → length l ≡ 0 → codes l ≡ []
+codes_none l e = codes_end l 0 (omega arith)
 
-    pub latin1_on : 1 ≤ r.code → r.code ≤ 255 → all_latin1 (codes (drop (at + r.len) l)) ≡ w
-    unfolding all_latin1
-    latin1_on p q = search picks depth 6 ∙ all
+-- `latin1`
+pub all_is : (cs : List ℕ) → all_latin1 cs ≡ list_all (λ c. leb 1 c && leb c 255) cs
+unfolding all_latin1
+all_is [] = refl
+all_is (c ∷ cs) = rw (all_is cs) (grind (arith, nat_tests))
 
-  pub latin1_end : length l ≤ at → true ≡ w
-  unfolding all_latin1
-  latin1_end h = rw (codes_end l at h) at inv
-
-pub ruleset latin1_ways = (latin1_low, latin1_high, latin1_on, latin1_end, code_less)
+pub ruleset codes_ways = (codes_first, codes_none)

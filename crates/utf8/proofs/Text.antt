@@ -44,20 +44,17 @@ module _ (from : ℕ) where
   ascii_from lo hi [] e = refl
   ascii_from lo hi (b ∷ l) e = let p = ascii_first b l e in rw (lt-ltb b 128 p.1, lt-ltb b 192 (omega (arith, p.1))) (ascii_from (low b) (high b) l p.2)
 
-  pub ascii_formed : (l : List ℕ) (t : Bool) → t ≡ all_ascii from l → t ≡ true → true ≡ well_formed l
+  pub ascii_formed : (l : List ℕ) → all_ascii from l ≡ true → well_formed l ≡ true
   unfolding well_formed
-  ascii_formed l t e p = sym (ascii_from 128 191 l (sym e ∙ p))
+  ascii_formed l e = ascii_from 128 191 l e
 
 -- and, without 0, Latin-1
-ascii_codes : (l : List ℕ) → all_ascii 1 l ≡ true → all_latin1 (codes l) ≡ true
+pub ascii_latin1 : (l : List ℕ) → all_ascii 1 l ≡ true → all_latin1 (codes l) ≡ true
 unfolding codes codes_from code_of extra all_latin1
-ascii_codes [] e = refl
-ascii_codes (b ∷ l) e =
+ascii_latin1 [] e = refl
+ascii_latin1 (b ∷ l) e =
     let p = ascii_first 1 b l e in
-    rw (lt-ltb b 192 (omega (arith, p.1)), le-ltb b 1 p.0, le-ltb 255 b (omega (arith, p.1))) (ascii_codes l p.2)
-
-pub ascii_latin1 : (l : List ℕ) (t : Bool) → t ≡ all_ascii 1 l → t ≡ true → true ≡ all_latin1 (codes l)
-ascii_latin1 l t e p = sym (ascii_codes l (sym e ∙ p))
+    rw (lt-ltb b 192 (omega (arith, p.1)), le-ltb b 1 p.0, le-ltb 255 b (omega (arith, p.1))) (ascii_latin1 l p.2)
 
 -- where none is due, a range says nothing
 none_due : (d : Due) (l : List ℕ) → eqb d.left 0 ≡ true → well_formed_from d l ≡ well_formed l
