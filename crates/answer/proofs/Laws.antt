@@ -11,12 +11,11 @@ use lib.ListN.{length}
 use borrow.Author.Tests.{lt-ltb, le-ltb}
 use Rattle.base.specs.Pick.{pick}
 use Rattle.refusal.specs.declared.Refusal.{Refusal}
-use Rattle.refusal.specs.declared.OptRefusal.TheVariants.{Some as SomeRefusal, None as NoRefusal}
 use Rattle.records.specs.declared.Config.{Config}
 use Rattle.sign.specs.Sign.{Font, Sign, Accepted, sign_file}
 use Rattle.admit.specs.Admission.{Admission, admission}
 use Rattle.admit.specs.Handed.{handed}
-use Rattle.admit.specs.declared.Admitted.{Admitted}
+use Rattle.sign.specs.declared.SignFile.{SignFile}
 use Rattle.admit.proofs.Laws.{Opens, denied_is, opens}
 use Rattle.layout.specs.declared.Answer.{Answer}
 use Rattle.layout.specs.declared.Answer.TheVariants.{On, Off, End, Refused}
@@ -153,24 +152,24 @@ board_is : (file msg : List ℕ) (c : Config) (fs : List Font) → sign_file fil
 unfolding board_of meter_in
 board_is file msg c fs q = ap (λ (x : Sign). record { config = c; meter = meter_of msg (capitals_in x) (fonts_in x) }) q
 
--- x is the answer of `admit`
-module _ (file msg : List ℕ) {x : Admitted} (e : x ≡ handed (admission file msg) (sign_file file)) where
-  pub call_denied : {y : Refusal} → x.denied ≡ SomeRefusal y → (n room : ℕ) (out : List Span) {r : Placed} → r ≡ bare (Refused y)
+-- by the answer of `admit`
+module _ (file msg : List ℕ) where
+  pub call_denied : {y : Refusal} → Err y ≡ handed (admission file msg) → (n room : ℕ) (out : List Span) {r : Placed} → r ≡ bare (Refused y)
       → Answered file msg n room out out r
   unfolding result
   call_denied h n room out d =
       subst (Answered file msg n room out out) (sym d)
       (record {
-        computed = record { ends = ap (λ (a : Admission). result_on a msg n room) (sym (denied_is file msg e h)); few = omega arith; long = refl };
+        computed = record { ends = ap (λ (a : Admission). result_on a msg n room) (sym (denied_is file msg h)); few = omega arith; long = refl };
         counts = record { looked = refl; spans = refl };
       })
 
-  module _ (h : x.denied ≡ NoRefusal) where
-    abbrev known : Opens file msg x.table
-    known = opens file msg e h
+  module _ {t : SignFile} (h : Ok t ≡ handed (admission file msg)) where
+    abbrev known : Opens file msg t
+    known = opens file msg h
 
-    pub call_accepted : AcceptedTable file x.table
-    call_accepted = (known.table, known.accepted)
+    pub call_accepted : AcceptedTable file t
+    call_accepted = known.table
 
     pub call_small : length msg ≤ 2048
     call_small = known.admits_it.small
@@ -178,11 +177,11 @@ module _ (file msg : List ℕ) {x : Admitted} (e : x ≡ handed (admission file 
     module _ (n room : ℕ) (out : List Span) where
       -- what is behind the refusals of every call
       behind : result file msg n room
-          ≡ pick (ltb room 1400) (said (Refused (refusal 4 0 0 0))) (numbered 0 (pages (board_in file msg x.table.config) (items x.table.config msg)) n)
+          ≡ pick (ltb room 1400) (said (Refused (refusal 4 0 0 0))) (numbered 0 (pages (board_in file msg t.config) (items t.config msg)) n)
       unfolding result
       behind =
-          let after : Board → Told = λ y. pick (ltb room 1400) (said (Refused (refusal 4 0 0 0))) (numbered 0 (pages y (items x.table.config msg)) n) in
-          ap (λ (a : Admission). result_on a msg n room) known.is ∙ sym (ap after (board_is file msg x.table.config known.fs known.admits_it.sign))
+          let after : Board → Told = λ y. pick (ltb room 1400) (said (Refused (refusal 4 0 0 0))) (numbered 0 (pages y (items t.config msg)) n) in
+          ap (λ (a : Admission). result_on a msg n room) known.is ∙ sym (ap after (board_is file msg t.config known.fs known.admits_it.sign))
 
       pub call_short : {r : Placed} → room < 1400 → r ≡ bare (Refused (refusal 4 0 0 0)) → Answered file msg n room out out r
       call_short g d =
@@ -192,7 +191,7 @@ module _ (file msg : List ℕ) {x : Admitted} (e : x ≡ handed (admission file 
             counts = record { looked = refl; spans = refl };
           })
 
-      pub call_listed : {call : Call} {out' : List Span} {r : Placed} → call.file.now ≡ file → call.msg.now ≡ msg → call.table ≡ x.table
+      pub call_listed : {call : Call} {out' : List Span} {r : Placed} → call.file.now ≡ file → call.msg.now ≡ msg → call.table ≡ t
           → 1400 ≤ room → RecordRoom msg out → Numbered call n out out' r → Answered file msg n room out out' r
       call_listed {call} {out'} {r} a b c g q d =
           record {

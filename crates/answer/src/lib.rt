@@ -9,7 +9,7 @@ use counts::Placed;
 use layout::{Answer, Span};
 use meter::Call;
 use pages::{PageShown, Pages};
-use refusal::{OptRefusal, Refusal};
+use refusal::Refusal;
 use rows::{BLANK_ROW, ROOM, Row, SHORT_ROOM};
 
 // An answer without records: both counts are 0.
@@ -76,10 +76,10 @@ pub fn placed(file: &[u8], msg: &[u8], number: usize, room: usize, out: &mut [Sp
     requires { RecordRoom msg.now out.old }
     ensures { PlacedAs file.now msg.now number room out.old out.new result }
 {
-    let admitted = admit::admit(file, msg);
-    if let OptRefusal::Some(r) = admitted.denied {
-        return unplaced(Answer::Refused(r));
-    }
+    let table = match admit::admit(file, msg) {
+        Ok(table) => table,
+        Err(r) => return unplaced(Answer::Refused(r)),
+    };
     if room < 1400 {
         return unplaced(Answer::Refused(Refusal {
             number: 4,
@@ -88,11 +88,7 @@ pub fn placed(file: &[u8], msg: &[u8], number: usize, room: usize, out: &mut [Sp
             detail: 0,
         }));
     }
-    let call = Call {
-        file,
-        table: admitted.table,
-        msg,
-    };
+    let call = Call { file, table, msg };
     if msg.len() <= 256 {
         return paged::<SHORT_ROOM>(&call, number, out);
     }

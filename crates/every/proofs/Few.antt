@@ -3,10 +3,11 @@ use Prim.Native.Nat.{ℕ, zero, suc, ◌+◌, ◌-◌, ◌*◌, ◌≤◌, ◌<�
 use native.Mathlib.Omega.{arith}
 use mathlib.Core.Path.{◌≡◌, refl, ap, ◌∙◌}
 use mathlib.Core.Bool.{Bool, true, false}
-use mathlib.Core.Option.{Option, none, some}
+use Rattle.std.specs.Prelude.{Option, Some, None, Result, Ok, Err}
 use mathlib.Core.List.{List, [], ◌∷◌, ◌++◌, map}
 use lib.Dec.{leb, eqb}
 use lib.ListN.{length, take, drop, length-append, length-take}
+use Rattle.std.proofs.lemmas.List.{length-map}
 use borrow.Author.Tests.{leb-true, leb-false, ne_eqb}
 use Rattle.base.specs.Pick.{pick}
 use Rattle.token.specs.declared.Shape.{Shape}
@@ -16,15 +17,15 @@ use Rattle.token.proofs.Laws.{slice_le}
 use Rattle.utf8.specs.Utf8.{codes, all_latin1}
 use Rattle.number.specs.Number.{read_number, read_digits}
 use Rattle.part.specs.Part.{lower, up_to}
-use Rattle.param.specs.Param.{number}
+use Rattle.value.specs.declared.SyntaxError.{SyntaxError}
+use Rattle.value.specs.declared.SyntaxError.TheVariants.{UnsupportedTag, Other}
+use Rattle.value.specs.declared.Value.{Value}
 use Rattle.value.specs.declared.Value.TheVariants.{Text}
-use Rattle.tag.specs.declared.Parsed.{Parsed}
 use Rattle.tag.specs.Tag.{field, graphic}
 use Rattle.parse.specs.declared.Name.{Name}
-use Rattle.parse.specs.declared.Name.TheVariants.{F, G, Other}
-use Rattle.parse.specs.Parse.{pair, end_name, first_name, name_by, name_of, name_len, by_name, tag_value}
-use Rattle.reading.specs.declared.Said.TheVariants.{Is, Fails}
-use Rattle.reading.specs.Reading.{place, parsed_item, tag_item, text_item, shape_item, item_of}
+use Rattle.parse.specs.declared.Name.TheVariants.{F, G}
+use Rattle.parse.specs.Parse.{pair, end_name, first_name, name_by, name_of, named, tag_value}
+use Rattle.reading.specs.Reading.{place, tag_item, text_item, shape_item, item_of}
 use Rattle.refusal.specs.declared.Refusal.{Refusal}
 use Rattle.records.specs.declared.Config.{Config}
 use Rattle.layout.specs.declared.Span.{Span}
@@ -39,7 +40,6 @@ use Rattle.layout.specs.Demand.{Role, text, hexadecimal, rectangle, page_just, n
 use Rattle.layout.specs.Bounds.{breaks}
 use Rattle.layout.proofs.Cover.{ReadAs, ends, refuses, goes, emits, cuts as cut_off, turns, fails, EventsAs, refused_at_once, begun, events_as, entries}
 use Rattle.layout.proofs.Items.{okays, reads_okay, items_honest, items_few}
-use Rattle.layout.proofs.Room.{map_length}
 use Rattle.every.specs.All.{answers_in, records_in}
 
 -- ---- the events of a message: its spans, and the ends of its pages
@@ -90,15 +90,15 @@ offs_few a r n zero l h = record { answered = omega (arith, h.answered); recorde
 offs_few a r n (suc d) l h = record { answered = omega (arith, h.answered); recorded = h.recorded }
 
 stop_few : (a r n : ℕ) (f : Option Refusal) (l : List Page) → FewOf a r n l → FewOf a r n (stop_at f l)
-stop_few a r n none l h = h
-stop_few a r n (some x) l h = record { answered = omega arith; recorded = omega arith }
+stop_few a r n None l h = h
+stop_few a r n (Some x) l h = record { answered = omega arith; recorded = omega arith }
 
 on_few : (a r n d : ℕ) (rs : List Span) (l : List Page) → FewOf a r (n + length rs) l → FewOf (suc a) (length rs + r) n (on d rs ∷ l)
 on_few a r n d rs l h = record { answered = omega (arith, h.answered); recorded = omega (arith, length-append rs (records_in l), h.recorded) }
 
 pass_length : (s : Board) (r : Rect) (es : List Entry) → length (pass_records s r es) ≡ length es
 unfolding pass_records
-pass_length s r es = map_length (record_of s r es) es
+pass_length s r es = length-map es (record_of s r es)
 
 none_few : (n : ℕ) → FewOf 0 0 n []
 none_few n = record { answered = omega arith; recorded = omega arith }
@@ -129,22 +129,22 @@ breaks_le new_page = omega arith
 breaks_le other = omega arith
 
 -- the breaks of a tag
-abbrev turned : Parsed → ℕ
-turned p = breaks (role_in (parsed_item p))
+abbrev turned : Result Value SyntaxError → ℕ
+turned p = breaks (role_in p)
 
 -- two letters are no letter alone
 alone : (a b c : ℕ) → 0 < c → c < 256 → eqb (pair a 0) (pair b c) ≡ false
 alone a b c h k = ne_eqb (pair a 0) (pair b c) (λ e. omega (arith, e))
 
 no_turn : (long : Bool) (end x : ℕ) (t u v : Bool)
-    → turned (by_name long (pick t F (pick u G (pick v Other Other))) end (drop (name_len (pick t F (pick u G (pick v Other Other)))) (x ∷ []))) ≡ 0
-unfolding field graphic number read_number read_digits up_to
+    → turned (named long (pick t (Some F) (pick u (Some G) (pick v None None))) end (x ∷ [])) ≡ 0
+unfolding field graphic read_number read_digits up_to
 no_turn long end x true u v = refl
 no_turn long end x false true v = refl
 no_turn long end x false false true = refl
 no_turn long end x false false false = refl
 
-name_alone : (a : ℕ) → name_by a 0 0 ≡ pick (eqb a 102) F (pick (eqb a 103) G (pick (eqb a 47) Other Other))
+name_alone : (a : ℕ) → name_by a 0 0 ≡ pick (eqb a 102) (Some F) (pick (eqb a 103) (Some G) (pick (eqb a 47) None None))
 unfolding name_by first_name end_name
 name_alone a =
     rw (
@@ -170,7 +170,7 @@ short_tag : (long : Bool) (end : ℕ) (l : List ℕ) → length l ≤ 1 → turn
 unfolding tag_value name_of lower
 short_tag long end [] h = unfold name_by first_name end_name in refl
 short_tag long end (x ∷ []) h =
-    ap (λ (n : Name). turned (by_name long n end (drop (name_len n) (x ∷ [])))) (name_alone (lower x))
+    ap (λ (n : Option Name). turned (named long n end (x ∷ []))) (name_alone (lower x))
     ∙ no_turn long end x (eqb (lower x) 102) (eqb (lower x) 103) (eqb (lower x) 47)
 short_tag long end (x ∷ y ∷ l) h = absurd (omega arith)
 
@@ -180,10 +180,10 @@ module _ (long : Bool) (at : ℕ) (s : List ℕ) where
   tag_four = look (leb 2 (length s)) (leb 4 (length s)) refl
     where
       look : (t u : Bool) → leb 4 (length s) ≡ u
-          → 4 * breaks (role_in (pick t (parsed_item (tag_value long (at + (length s - 1)) (take (length s - 1 - 1) (drop 1 s)))) (Fails 5))) ≤ length s
+          → 4 * breaks (role_in (pick t (tag_value long (at + (length s - 1)) (take (length s - 1 - 1) (drop 1 s))) (Err UnsupportedTag))) ≤ length s
       look false u q = omega arith
       look true true q =
-          omega (arith, leb-true 4 (length s) q, breaks_le (role_in (parsed_item (tag_value long (at + (length s - 1)) (take (length s - 1 - 1) (drop 1 s))))))
+          omega (arith, leb-true 4 (length s) q, breaks_le (role_in (tag_value long (at + (length s - 1)) (take (length s - 1 - 1) (drop 1 s)))))
       look true false q =
           omega (
             arith,
@@ -195,7 +195,7 @@ module _ (long : Bool) (at : ℕ) (s : List ℕ) where
   unfolding text_item
   text_four = look (all_latin1 (codes s))
     where
-      look : (t : Bool) → breaks (role_in (pick t (Is (Text (place at (length s)))) (Fails 7))) ≡ 0
+      look : (t : Bool) → breaks (role_in (pick t (Ok (Text (place at (length s)))) (Err Other))) ≡ 0
       look true = refl
       look false = refl
 

@@ -16,13 +16,12 @@ use lib.ListN.{length, set, take, drop, length-append, length-drop, length-set}
 use borrow.Author.Tests.{lt-ltb, le-ltb, ltb-false}
 use Rattle.base.specs.Pick.{pick}
 use Rattle.refusal.specs.declared.Refusal.{Refusal}
-use Rattle.refusal.specs.declared.OptRefusal.TheVariants.{Some as SomeRefusal, None as NoRefusal}
 use Rattle.refusal.specs.Refusals.{refusal}
 use Rattle.records.specs.declared.Config.{Config}
 use Rattle.sign.specs.Sign.{Font, Sign, Accepted, sign_file}
 use Rattle.admit.specs.Admission.{Admission, denied, admitted, admission}
 use Rattle.admit.specs.Handed.{handed}
-use Rattle.admit.specs.declared.Admitted.{Admitted}
+use Rattle.sign.specs.declared.SignFile.{SignFile}
 use Rattle.admit.proofs.Laws.{Opens, admits, denied_is, opens}
 use Rattle.layout.specs.declared.Span.{Span}
 use Rattle.layout.specs.Types.{items, Board}
@@ -274,17 +273,17 @@ board_is : (file msg : List ℕ) (c : Config) (fs : List Font) → sign_file fil
 unfolding board_of meter_in
 board_is file msg c fs q = ap (λ (x : Sign). record { config = c; meter = meter_of msg (capitals_in x) (fonts_in x) }) q
 
--- x is the answer of `admit`
-module _ (file msg : List ℕ) {x : Admitted} (e : x ≡ handed (admission file msg) (sign_file file)) (a k : ℕ) where
-  pub call_denied : {y : Refusal} → x.denied ≡ SomeRefusal y → gathered file msg a k ≡ none_but y
+-- by the answer of `admit`
+module _ (file msg : List ℕ) (a k : ℕ) where
+  pub call_denied : {y : Refusal} → Err y ≡ handed (admission file msg) → gathered file msg a k ≡ none_but y
   unfolding gathered
-  call_denied h = ap (λ (y : Admission). gathered_on y msg a k) (denied_is file msg e h)
+  call_denied h = ap (λ (y : Admission). gathered_on y msg a k) (denied_is file msg h)
 
-  module _ (h : x.denied ≡ NoRefusal) where
-    abbrev known : Opens file msg x.table
-    known = opens file msg e h
+  module _ {t : SignFile} (h : Ok t ≡ handed (admission file msg)) where
+    abbrev known : Opens file msg t
+    known = opens file msg h
 
-    is_on : gathered file msg a k ≡ gathered_on (admitted x.table.config known.fs) msg a k
+    is_on : gathered file msg a k ≡ gathered_on (admitted t.config known.fs) msg a k
     unfolding gathered
     is_on = ap (λ (y : Admission). gathered_on y msg a k) known.is
 
@@ -292,14 +291,14 @@ module _ (file msg : List ℕ) {x : Admitted} (e : x ≡ handed (admission file 
     call_short (inl g) = is_on ∙ rw (lt-ltb a 1026 g)
     call_short (inr g) = is_on ∙ rw (le-ltb a 1026 g.0, lt-ltb k 2048 g.1)
 
-    pub call_opened : 1026 ≤ a → 2048 ≤ k → OpenedTo file msg a k x.table
+    pub call_opened : 1026 ≤ a → 2048 ≤ k → OpenedTo file msg a k t
     call_opened f g =
         record {
-          opened = (known.table, known.accepted);
+          opened = known.table;
           small = known.admits_it.small;
           is =
               is_on ∙ rw (le-ltb a 1026 f, le-ltb k 2048 g)
-              (sym (ap (λ (y : Board). gather (pages y (items x.table.config msg))) (board_is file msg x.table.config known.fs known.admits_it.sign)));
+              (sym (ap (λ (y : Board). gather (pages y (items t.config msg))) (board_is file msg t.config known.fs known.admits_it.sign)));
         }
 
 -- ---- what it writes

@@ -7,7 +7,7 @@ ghost use Rattle.every.specs.Walk.{Countable, ShownAs, Opened, WalkAsked, Walks,
 use layout::Span;
 use meter::Call;
 use pages::{PageShown, Pages};
-use refusal::{OptRefusal, Refusal};
+use refusal::Refusal;
 use rows::{BLANK_ROW, ROOM, Row, SHORT_ROOM};
 use sign::SignFile;
 
@@ -118,10 +118,7 @@ fn paged<const N: usize>(call: &Call, shown: &mut [Shown], out: &mut [Span]) -> 
 fn opened(file: &[u8], msg: &[u8], answers: usize, records: usize) -> Result<SignFile, Refusal>
     ensures { Opened file.now msg.now answers records result }
 {
-    let call = admit::admit(file, msg);
-    if let OptRefusal::Some(r) = call.denied {
-        return Err(r);
-    }
+    let table = admit::admit(file, msg)?;
     if answers < ANSWERS || records < ROOM {
         return Err(Refusal {
             number: 4,
@@ -130,7 +127,7 @@ fn opened(file: &[u8], msg: &[u8], answers: usize, records: usize) -> Result<Sig
             detail: 0,
         });
     }
-    Ok(call.table)
+    Ok(table)
 }
 
 // All answers before the first refusal, if there is one, for slices of so many answers and records: they stand first in the slices. The rows of
