@@ -3,7 +3,8 @@ use Prim.Native.Nat.{ℕ, zero, suc, ◌+◌, ◌*◌, ◌/◌, ◌%◌, ◌≤�
 use native.Mathlib.Omega.{arith}
 use mathlib.Core.Path.{◌≡◌, refl, ◌∙◌, ap}
 use mathlib.Core.Bool.{Bool, true, false, ◌&&◌}
-use mathlib.Core.Option.{Option, some}
+use Rattle.std.specs.Prelude.{Option, Some, None}
+use Rattle.std.specs.Option.{option_and_then}
 use mathlib.Core.List.{List, [], ◌∷◌, ◌++◌, append_assoc}
 use lib.Dec.{leb, ltb, eqb}
 use lib.ListN.{length, drop, get_or, length-append}
@@ -13,13 +14,11 @@ use Rattle.std.specs.List.{list_all}
 use Rattle.std.proofs.lemmas.List.Folds.{list_all-append}
 use Rattle.base.specs.Pick.{pick}
 use Rattle.base.specs.Text.{ascii}
-use Rattle.number.specs.declared.Number.{Number}
-use Rattle.number.specs.declared.Number.TheVariants.{Is, Refused}
 use Rattle.number.specs.Number.{digit_of, read_from, read_digits, read_number}
 use Rattle.refusal.specs.declared.Refusal.{Refusal}
 use Rattle.sentence.specs.Words.{words, table, unknown}
 use Rattle.sentence.specs.Sentence.{digits, digit_count, decimal, sentence}
-use Rattle.sentence.specs.Recovered.{digit, leading, with, tells_number, recovered, ink, ended, Sentenced, Worded}
+use Rattle.sentence.specs.Recovered.{digit, leading, tells_number, recovered, ink, ended, Sentenced, Worded}
 use Rattle.sentence.proofs.Laws.{digits_length, decimal_length, digit_count_le, digit_count_small}
 use Rattle.sentence.proofs.Texts.{all_here, all_there, all_at, words_short}
 
@@ -30,8 +29,8 @@ unfolding digit_of
 digit_of_law d h = rw (le-leb (48 + d) 57 (omega arith), le-leb 48 (48 + d) (omega arith)) (omega arith)
 
 -- one digit more
-read_last : (max acc m d : ℕ) (l : List ℕ) → read_from 10 max acc l ≡ Is m → d < 10 → m * 10 + d ≤ max
-    → read_from 10 max acc (l ++ ((48 + d) ∷ [])) ≡ Is (m * 10 + d)
+read_last : (max acc m d : ℕ) (l : List ℕ) → read_from 10 max acc l ≡ Some m → d < 10 → m * 10 + d ≤ max
+    → read_from 10 max acc (l ++ ((48 + d) ∷ [])) ≡ Some (m * 10 + d)
 unfolding read_from
 read_last max acc m d [] e h g =
     let q : acc ≡ m = cc in
@@ -40,8 +39,8 @@ read_last max acc m d (b ∷ l) e h g =
     go (ltb (digit_of b) 10) (leb (acc * 10 + digit_of b) max) (read_from 10 max (acc * 10 + digit_of b) l)
     (read_from 10 max (acc * 10 + digit_of b) (l ++ ((48 + d) ∷ []))) e (λ q. read_last max (acc * 10 + digit_of b) m d l q h g)
   where
-    go : (t u : Bool) (x y : Number) → pick t (pick u x Refused) Refused ≡ Is m → (x ≡ Is m → y ≡ Is (m * 10 + d))
-        → pick t (pick u y Refused) Refused ≡ Is (m * 10 + d)
+    go : (t u : Bool) (x y : Option ℕ) → pick t (pick u x None) None ≡ Some m → (x ≡ Some m → y ≡ Some (m * 10 + d))
+        → pick t (pick u y None) None ≡ Some (m * 10 + d)
     go true true x y q f = f q
     go true false x y q f = let z : ◌≡◌ {A = ℕ} 0 1 = cc in absurd (omega arith)
     go false u x y q f = let z : ◌≡◌ {A = ℕ} 0 1 = cc in absurd (omega arith)
@@ -50,12 +49,12 @@ tens : ℕ → ℕ
 tens zero = 1
 tens (suc w) = tens w * 10
 
-read_digits_law : (max w n : ℕ) → n < tens w → n ≤ max → read_from 10 max 0 (digits w n) ≡ Is n
+read_digits_law : (max w n : ℕ) → n < tens w → n ≤ max → read_from 10 max 0 (digits w n) ≡ Some n
 unfolding read_from digits tens
-read_digits_law max zero n h g = ap Is (omega arith)
+read_digits_law max zero n h g = ap Some (omega arith)
 read_digits_law max (suc w) n h g =
     read_last max 0 (n / 10) (n % 10) (digits w (n / 10)) (read_digits_law max w (n / 10) (omega arith) (omega arith)) (omega arith) (omega arith)
-    ∙ ap Is (omega arith)
+    ∙ ap Some (omega arith)
 
 digit_count_most : (n : ℕ) → n < 100000 → n < tens (digit_count n)
 unfolding digit_count tens
@@ -100,7 +99,7 @@ digit_count_some n = four (ltb n 10) (ltb n 100) (ltb n 1000) (ltb n 10000)
     four false false false false = omega arith
 
 -- what the decimal writer writes, the number reader reads
-pub read_decimal : (max n : ℕ) → n < 100000 → n ≤ max → read_number 10 max (decimal n) ≡ Is n
+pub read_decimal : (max n : ℕ) → n < 100000 → n ≤ max → read_number 10 max (decimal n) ≡ Some n
 unfolding decimal
 read_decimal max n h g =
     number_digits max (digits (digit_count n) n) (all_digits (digit_count n) n) (omega (arith, digits_length (digit_count n) n, digit_count_some n))
@@ -155,8 +154,8 @@ tells_number_law : (max k n b : ℕ) (l : List ℕ) (f : ℕ → List ℕ → Op
     → tells_number max k (decimal n ++ (b ∷ l)) f ≡ f n (drop k (b ∷ l))
 unfolding tells_number
 tells_number_law max k n b l f h g q =
-    ap (λ (d : List ℕ). with (read_number 10 max d) (λ j. f j (drop (length d + k) (decimal n ++ (b ∷ l))))) (leading_at (decimal n) b l decimal_digits q)
-    ∙ ap (λ (x : Number). with x (λ j. f j (drop (length (decimal n) + k) (decimal n ++ (b ∷ l))))) (read_decimal max n h g)
+    ap (λ (d : List ℕ). option_and_then (λ j. f j (drop (length d + k) (decimal n ++ (b ∷ l)))) (read_number 10 max d)) (leading_at (decimal n) b l decimal_digits q)
+    ∙ ap (option_and_then (λ j. f j (drop (length (decimal n) + k) (decimal n ++ (b ∷ l))))) (read_decimal max n h g)
     ∙ ap (f n) (drop-append-add (decimal n) (b ∷ l) k)
   where
     decimal_digits : list_all digit (decimal n) ≡ true
@@ -183,7 +182,7 @@ module _ (r : Refusal) (a : r.number < 256) (b : r.start < 65536) (c : r.length 
       regroup (ascii "Refusal ") (decimal r.number) (ascii " at byte ") (decimal r.start) (ascii ", length ") (decimal r.length)
       (ascii ", detail ") (decimal r.detail) (ascii ": ") (words r.number) (ascii ".")
 
-  recovers : recovered (sentence r) ≡ some r
+  recovers : recovered (sentence r) ≡ Some r
   unfolding recovered
   recovers =
       ap recovered whole

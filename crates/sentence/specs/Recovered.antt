@@ -1,9 +1,6 @@
 -- Document 02, A1: what holds of every sentence. "From the sentence alone all four can be recovered."
-use Rattle.std.specs.Prelude.{ℕ, ◌+◌, ◌≤◌, ◌<◌, ◌≡◌, Bool, true, false, not, ◌&&◌, List, [], ◌∷◌, leb, eqb, length, drop}
-use Rattle.std.proofs.Math.Option.{Option, none, some}
+use Rattle.std.specs.Prelude.{ℕ, ◌+◌, ◌≤◌, ◌<◌, ◌≡◌, Bool, true, false, not, ◌&&◌, List, [], ◌∷◌, leb, eqb, length, drop, Option, Some, None, option_and_then}
 use Rattle.base.specs.Pick.{pick}
-use Rattle.number.specs.declared.Number.{Number}
-use Rattle.number.specs.declared.Number.TheVariants.{Is, Refused}
 use Rattle.number.specs.Number.{read_number}
 use Rattle.refusal.specs.declared.Refusal.{Refusal}
 use Rattle.refusal.specs.Refusals.{refusal}
@@ -21,14 +18,9 @@ unfoldable pub leading : List ℕ → List ℕ
 leading [] = []
 leading (b ∷ l) = pick (digit b) (b ∷ leading l) []
 
--- goes on with a number that was read
-abbrev pub with : Number → (ℕ → Option Refusal) → Option Refusal
-with (Is n) f = f n
-with Refused f = none
-
 -- the number at the start of a text, of at most max; f goes on with what follows it after n bytes
 unfoldable pub tells_number : ℕ → ℕ → List ℕ → (ℕ → List ℕ → Option Refusal) → Option Refusal
-tells_number max n s f = with (read_number 10 max (leading s)) (λ k. f k (drop (length (leading s) + n) s))
+tells_number max n s f = option_and_then (λ k. f k (drop (length (leading s) + n) s)) (read_number 10 max (leading s))
 
 -- the four numbers of a sentence, each after the bytes before it: "Refusal ", " at byte ", ", length ", ", detail "
 unfoldable pub recovered : List ℕ → Option Refusal
@@ -37,7 +29,7 @@ recovered s =
     (λ number s. tells_number 65535 9 s
     (λ start s. tells_number 65535 9 s
     (λ len s. tells_number 65535 2 s
-    (λ detail s. some (refusal number start len detail)))))
+    (λ detail s. Some (refusal number start len detail)))))
 
 -- ---- its bytes
 
@@ -58,7 +50,7 @@ pub record Sentenced (r : Refusal) : Type 0 where
   -- every buffer that is not refused has room
   pub room : length (sentence r) ≤ 96
   pub plain : ended (sentence r) ≡ true
-  pub recovers : recovered (sentence r) ≡ some r
+  pub recovers : recovered (sentence r) ≡ Some r
 
 -- of the words: "at most 40 ASCII bytes of words, different for each number in use and "unknown" for others", which is entry 0
 pub record Worded : Type 0 where
