@@ -71,9 +71,7 @@ fn print_all(rt: &impl Print, msg: &[u8], long: bool) {
 // Whether the sign file has long times; one that is refused has none.
 fn long_times(rt: &impl Files) -> bool {
     let mut buf = [0u8; 65536];
-    let table = sign::read_sign(signbin::load(rt, &mut buf));
-    let config = table.config;
-    config.long_times
+    sign::read_sign(signbin::load(rt, &mut buf)).is_ok_and(|sign| sign.config.long_times)
 }
 
 fn main(rt: HostRuntime) {

@@ -2,18 +2,12 @@
 use Rattle.std.specs.Prelude.{ℕ, ◌+◌, ◌-◌, ◌*◌, List, [], ◌∷◌, Option, Some, None, ltb, leb, eqb, length, get_or}
 use Rattle.base.specs.Pick.{pick}
 use Rattle.number.specs.Number.{read_number}
-use Rattle.number.specs.declared.Number.{Number}
-use Rattle.number.specs.declared.Number.TheVariants.{Is, Refused}
-
-abbrev pub known : Number → Option ℕ
-known (Is n) = Some n
-known Refused = None
 
 -- a decimal number without a sign and without leading zeros
 unfoldable pub plain_number : List ℕ → Option ℕ
 plain_number w =
     pick (eqb (get_or w 0 0) 43) None
-    (pick (eqb (get_or w 0 0) 48) (pick (ltb 1 (length w)) None (Some 0)) (known (read_number 10 4294967295 w)))
+    (pick (eqb (get_or w 0 0) 48) (pick (ltb 1 (length w)) None (Some 0)) (read_number 10 4294967295 w))
 
 -- the value of a hexadecimal digit in lower case
 unfoldable pub nibble_of : ℕ → Option ℕ

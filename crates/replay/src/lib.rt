@@ -11,7 +11,6 @@ ghost use Rattle.replay.specs.Text.{plain_number, nibble_of, pair_of, digits_in,
 
 use arrayvec::ArrayVec;
 pub use input::{Input, Line};
-use number::Number;
 pub use score::{BadStream, Score, print_other};
 pub use stream::{Kind, Phase, Stream};
 
@@ -33,10 +32,7 @@ fn plain(word: &[u8]) -> Option<u32>
     match word {
         b"0" => Some(0),
         [b'0' | b'+', ..] => None,
-        _ => match number::parse(word, u32::MAX) {
-            Number::Is(n) => Some(n),
-            Number::Refused => None,
-        },
+        _ => number::parse(word, u32::MAX),
     }
 }
 

@@ -1,6 +1,5 @@
 // Comparing a case with its answer, line by line.
 use arrayvec::ArrayVec;
-use number::Number;
 use reading::Reading;
 use replay::{Kind, Line, Phase};
 
@@ -41,10 +40,10 @@ fn largest(bits: u32) -> Option<u32> {
 }
 
 // Whether a D, X or Q answer is a number, or refuses.
-fn is_answer(line: &[u8], n: Number) -> bool {
+fn is_answer(line: &[u8], n: Option<u32>) -> bool {
     match n {
-        Number::Is(x) => replay::is_line(line, &[1, u64::from(x)]),
-        Number::Refused => replay::begins(line, &[0]),
+        Some(x) => replay::is_line(line, &[1, u64::from(x)]),
+        None => replay::begins(line, &[0]),
     }
 }
 

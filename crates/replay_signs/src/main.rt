@@ -3,7 +3,7 @@
 
 use arrayvec::ArrayVec;
 use replay::{BadStream, Input, Kind, Line, Phase, Score};
-use sign::{Outcome, SignFile};
+use sign::{RefusedAt, SignFile};
 use std::io::Read;
 
 // The case whose answer is read: the number of its line, the next font of its answer, and whether it agrees so far.
@@ -17,28 +17,31 @@ struct Check {
 // The sign file that came last, the I case whose answer is read, and how many agree.
 #[derive(Drop)]
 struct Replay {
-    sign: Option<SignFile>,
+    sign: Option<Result<SignFile, RefusedAt>>,
     check: Option<Check>,
     score: Score,
 }
 
 // Whether a line is the count of fonts, or refusal 1.
-fn is_count(line: &[u8], sign: &SignFile) -> bool {
-    match sign.outcome {
-        Outcome::Accepted => replay::is_line(line, &[sign.count as u64]),
-        Outcome::RefusedAt(start) => replay::is_line(line, &[4, 1, start as u64, 0, 0]),
+fn is_count(line: &[u8], sign: &Result<SignFile, RefusedAt>) -> bool {
+    match sign {
+        Ok(sign) => replay::is_line(line, &[sign.count as u64]),
+        Err(refused) => replay::is_line(line, &[4, 1, refused.at as u64, 0, 0]),
     }
 }
 
 // Whether a line is the number and the version id of a font of the file.
-fn is_font(line: &[u8], row: usize, sign: &SignFile) -> bool {
+fn is_font(line: &[u8], row: usize, sign: &Result<SignFile, RefusedAt>) -> bool {
+    let Ok(sign) = sign else {
+        return false;
+    };
     let font = sign.fonts.iter().take(sign.count).nth(row);
     font.is_some_and(|e| { replay::begins(line, &[u64::from(e.number), u64::from(e.version_id)]) })
 }
 
 impl Check {
     // After a line of the answer.
-    fn answer(&mut self, line: &Line, sign: &SignFile) {
+    fn answer(&mut self, line: &Line, sign: &Result<SignFile, RefusedAt>) {
         if let Phase::Rows(..) = line.was.phase {
             self.agrees = self.agrees && is_font(line.text, self.row, sign);
             self.row = self.row.saturating_add(1);
@@ -58,7 +61,7 @@ impl Replay {
                 self.sign = Some(sign::read_sign(file.as_slice()));
             }
             Some(Kind::I) => {
-                self.sign?;
+                self.sign.as_ref()?;
                 self.check = Some(Check {
                     line: line.number,
                     row: 0,
