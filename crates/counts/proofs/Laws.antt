@@ -1,4 +1,4 @@
--- Sums of counts, and how many characters a span's measure looks up at most.
+-- How many characters a span's measure looks up at most.
 use Prim.Native.Nat.{ℕ, zero, suc, ◌+◌, ◌≤◌, ◌<◌}
 use native.Mathlib.Omega.{arith}
 use mathlib.Core.Path.{◌≡◌, refl, ap}
@@ -7,6 +7,8 @@ use mathlib.Core.Option.{Option, none, some}
 use mathlib.Core.List.{List, [], ◌∷◌, ◌++◌, map}
 use lib.Dec.{eqb}
 use lib.ListN.{length, take, drop, length-take}
+use Rattle.std.specs.Prelude.{sum_by}
+use Rattle.std.proofs.lemmas.List.Folds.{fold-map}
 use Rattle.base.specs.Pick.{pick}
 use Rattle.utf8.specs.Utf8.{extra, codes, codes_from}
 use Rattle.sign.specs.Sign.{Character, Font, Sign}
@@ -20,13 +22,7 @@ use Rattle.layout.specs.declared.Rect.{Rect}
 use Rattle.layout.specs.Types.{Board}
 use Rattle.layout.specs.Fonts.{chars_of}
 use Rattle.layout.specs.Placing.{record_of, pass_records}
-use Rattle.counts.specs.Placing.{sum_of, fonts_in, capitals_in, looked_in, chars_looked}
-
--- ---- sums
-
-pub sum_append : {A : Type 0} (f : A → ℕ) (a b : List A) → sum_of f (a ++ b) ≡ sum_of f a + sum_of f b
-sum_append f [] b = omega arith
-sum_append f (x ∷ a) b = omega (arith, sum_append f a b)
+use Rattle.counts.specs.Placing.{fonts_in, capitals_in, looked_in, chars_looked}
 
 -- ---- at most
 
@@ -66,16 +62,7 @@ looked_few msg e capitals (some f) n h k =
 -- ---- the records of a pass tell what is looked up for its spans
 
 module _ (sign : Sign) (msg : List ℕ) (s : Board) (r : Rect) (es : List Entry) where
-  -- for a span
-  abbrev looked_for : Entry → ℕ
-  looked_for e = looked_in (capitals_in sign) (chars_of msg e) (font_numbered e.state.font (fonts_in sign))
-
-  looked_map : (l : List Entry) → chars_looked sign msg (map (record_of s r es) l) ≡ sum_of looked_for l
-  unfolding record_of
-  looked_map [] = refl
-  looked_map (e ∷ l) = ap (λ (n : ℕ). looked_for e + n) (looked_map l)
-
   pub looked_pass : chars_looked sign msg (pass_records s r es)
-      ≡ sum_of (λ e. looked_in (capitals_in sign) (chars_of msg e) (font_numbered e.state.font (fonts_in sign))) es
-  unfolding pass_records
-  looked_pass = looked_map es
+      ≡ sum_by (λ e. looked_in (capitals_in sign) (chars_of msg e) (font_numbered e.state.font (fonts_in sign))) es
+  unfolding pass_records record_of
+  looked_pass = fold-map _ (record_of s r es) 0 es

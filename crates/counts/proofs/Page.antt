@@ -2,7 +2,8 @@
 use Prim.Native.Nat.{ℕ, zero, suc}
 use native.Mathlib.Omega.{arith}
 use mathlib.Core.Path.{◌≡◌, refl, sym, ◌∙◌, ap}
-use mathlib.Core.Option.{Option, none, some}
+use mathlib.Core.Option.{Option as Maybe, some}
+use Rattle.std.specs.Prelude.{Option, Some, None}
 use mathlib.Core.List.{List, [], ◌∷◌, ◌++◌, map}
 use lib.ListN.{length, drop}
 use Rattle.records.specs.declared.Config.{Config}
@@ -21,7 +22,8 @@ use Rattle.layout.specs.declared.Answer.TheVariants.{Off, End, Refused}
 use Rattle.layout.specs.Types.{items, Board}
 use Rattle.layout.specs.Fonts.{chars_of, board_of}
 use Rattle.layout.specs.Placing.{first_fault, span_fault, pass_fault, pass_records, record_of}
-use Rattle.layout.specs.Read.{Scan, Event, pass, close, stop, opening, events}
+use Rattle.layout.specs.declared.Scan.{Scan}
+use Rattle.layout.specs.Read.{Event, pass, close, stop, opening, events}
 use Rattle.layout.specs.Listing.{Page, on, off, refused, stop_at, offs, pass_stop, walk, pages, Result, numbered, result, listing, after}
 use Rattle.layout.specs.Demand.{In, here, there, counted_records, Measured}
 use Rattle.layout.proofs.PassLaws.{or_none}
@@ -31,7 +33,7 @@ use Rattle.layout.proofs.Checks.{any_result}
 use Rattle.layout.proofs.Room.{Counts, numbered_counts}
 use Rattle.counts.specs.Placing.{chars_in, looked_in, chars_looked, chars_printed, placing}
 use Rattle.counts.specs.Page.{page_records, NonePlaced, PageCounts}
-use Rattle.counts.proofs.Laws.{sum_append}
+use Rattle.std.proofs.lemmas.List.Sums.{sum_by-append, sum_by-cons}
 
 -- ---- a pass without a fault
 
@@ -44,20 +46,20 @@ module _ (c : Config) (fs : List Font) (msg : List ℕ) where
   Equal qs = chars_looked (Accepted c fs) msg qs ≡ chars_printed msg qs
 
   -- how many characters the measure of a text looks up
-  abbrev looks : List ℕ → Option Font → ℕ
+  abbrev looks : List ℕ → Maybe Font → ℕ
   looks = looked_in c.capitals
 
-  found : (l : List ℕ) (o : Option Font) (f : Font) (w : ℕ) → o ≡ some f → looks l (some f) ≡ w → looks l o ≡ w
+  found : (l : List ℕ) (o : Maybe Font) (f : Font) (w : ℕ) → o ≡ some f → looks l (some f) ≡ w → looks l o ≡ w
   found l o f w p q = rw p q
 
-  span_looked : (r : Rect) (es : List Entry) (e : Entry) → In e es → span_fault s r es e ≡ none
+  span_looked : (r : Rect) (es : List Entry) (e : Entry) → In e es → span_fault s r es e ≡ None
       → looks (chars_of msg e) (font_numbered e.state.font fs) ≡ length (chars_of msg e)
   span_looked r es e i h =
       let m : Measured c msg fs e (record_of s r es e) = measured c fs msg r es e i h in
       found (chars_of msg e) (font_numbered e.state.font fs) m.font (length (chars_of msg e)) m.found
       ((counts (letters_of c.capitals m.font.characters) _ (chars_of msg e)).all _ m.width)
 
-  spans_looked : (r : Rect) (es l : List Entry) → ((e : Entry) → In e l → In e es) → first_fault (span_fault s r es) es ≡ none
+  spans_looked : (r : Rect) (es l : List Entry) → ((e : Entry) → In e l → In e es) → first_fault (span_fault s r es) es ≡ None
       → Equal (map (record_of s r es) l)
   unfolding record_of
   spans_looked r es [] i h = refl
@@ -65,9 +67,10 @@ module _ (c : Config) (fs : List Font) (msg : List ℕ) where
       let a : looks (chars_of msg e) (font_numbered e.state.font fs) ≡ length (chars_of msg e) =
       span_looked r es e (i e here) (first_none (span_fault s r es) (i e here) h) in
       let b : Equal (map (record_of s r es) l) = spans_looked r es l (λ x j. i x (there j)) h in
-      rw (a, b)
+      sum_by-cons (λ q. looks (chars_in msg q) (font_numbered q.font fs)) (record_of s r es e) (map (record_of s r es) l) ∙ omega (arith, a, b)
+      ∙ sym (sum_by-cons (λ q. length (chars_in msg q)) (record_of s r es e) (map (record_of s r es) l))
 
-  pass_looked : (r : Rect) (es : List Entry) → pass_fault s r es ≡ none → Equal (pass_records s r es)
+  pass_looked : (r : Rect) (es : List Entry) → pass_fault s r es ≡ None → Equal (pass_records s r es)
   unfolding pass_fault pass_records
   pass_looked r es h = spans_looked r es es (λ e i. i) (or_none _ _ h).1
 
@@ -83,14 +86,14 @@ module _ (c : Config) (fs : List Font) (msg : List ℕ) where
   each_offs zero l h = h
   each_offs (suc n) l h = h
 
-  each_stop : (o : Option Refusal) (l : List Page) → (o ≡ none → Each l) → Each (stop_at o l)
-  each_stop none l h = h refl
-  each_stop (some r) l h = tt
+  each_stop : (o : Option Refusal) (l : List Page) → (o ≡ None → Each l) → Each (stop_at o l)
+  each_stop None l h = h refl
+  each_stop (Some r) l h = tt
 
   both : (a b : List Span) → Equal a → Equal b → Equal (a ++ b)
   both a b p q =
-      sum_append (λ q. looks (chars_in msg q) (font_numbered q.font fs)) a b ∙ omega (arith, p, q)
-      ∙ sym (sum_append (λ q. length (chars_in msg q)) a b)
+      sum_by-append (λ q. looks (chars_in msg q) (font_numbered q.font fs)) a b ∙ omega (arith, p, q)
+      ∙ sym (sum_by-append (λ q. length (chars_in msg q)) a b)
 
   walk_each : (evs : List Event) (a b : ℕ) (rs : List Span) (n : ℕ) → Equal rs → Each (walk s evs a b rs n)
   walk_each [] a b rs n h = (h, each_offs b [] tt)

@@ -1,5 +1,5 @@
 -- Document 02, A9: "The result carries two counts". The records and the refusals are layout's, "the old way's, span for span".
-use Rattle.std.specs.Prelude.{ℕ, ◌+◌, List, [], ◌∷◌, Bool, false, eqb, length, take, drop}
+use Rattle.std.specs.Prelude.{ℕ, List, [], ◌∷◌, Bool, false, eqb, length, take, drop, sum_by}
 use Rattle.std.proofs.Math.Option.{Option, none, some}
 use Rattle.base.specs.Pick.{pick}
 use Rattle.utf8.specs.Utf8.{codes}
@@ -10,11 +10,6 @@ use Rattle.font.specs.Measure.{looked_up}
 use Rattle.layout.specs.declared.Span.{Span}
 use Rattle.layout.specs.Listing.{Result, result}
 use Rattle.counts.specs.declared.Placed.{Placed}
-
--- the numbers that f gives of a list, added up
-abbrev pub sum_of : {A : Type 0} → (A → ℕ) → List A → ℕ
-sum_of f [] = 0
-sum_of f (a ∷ l) = f a + sum_of f l
 
 -- the code points that the span of a record prints, as `chars_of` has them of an entry: of kind 0 those of its text, of kind 1 its code, of kind 2 none
 abbrev pub chars_in : List ℕ → Span → List ℕ
@@ -38,11 +33,11 @@ looked_in capitals l (some f) = looked_up (letters_of capitals f.characters) l
 
 -- of the measures of all these records' spans in the sign's fonts, each one measured once
 abbrev pub chars_looked : Sign → List ℕ → List Span → ℕ
-chars_looked sign msg qs = sum_of (λ q. looked_in (capitals_in sign) (chars_in msg q) (font_numbered q.font (fonts_in sign))) qs
+chars_looked sign msg qs = sum_by (λ q. looked_in (capitals_in sign) (chars_in msg q) (font_numbered q.font (fonts_in sign))) qs
 
 -- "the page's printed characters", of the page with these records
 abbrev pub chars_printed : List ℕ → List Span → ℕ
-chars_printed msg qs = sum_of (λ q. length (chars_in msg q)) qs
+chars_printed msg qs = sum_by (λ q. length (chars_in msg q)) qs
 
 -- "the characters that its measures looked up .., and the spans placed", beside the answer of a listing; off, end and a refusal place none
 abbrev pub with_counts : Sign → List ℕ → Result → Placed

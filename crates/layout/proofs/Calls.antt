@@ -49,9 +49,9 @@ answer_shows (off d) l r h = refl
 answer_shows (refused x) l r h = absurd h
 
 no_end : (p : Page) (k : ℕ) → answer_of p ≡ End k → ⊥
-no_end (on d rs) k e = let z : ◌≡◌ {A = ℕ} 0 1 = cc in omega arith
-no_end (off d) k e = let z : ◌≡◌ {A = ℕ} 0 1 = cc in omega arith
-no_end (refused x) k e = let z : ◌≡◌ {A = ℕ} 0 1 = cc in omega arith
+no_end (on d rs) k e = cc
+no_end (off d) k e = cc
+no_end (refused x) k e = cc
 
 no_refusal : (p : Page) (l : List Page) → Shows (answer_of p) → NoRefusal l → NoRefusal (p ∷ l)
 no_refusal (on d rs) l h n = n
@@ -124,8 +124,7 @@ module _ (file msg : List ℕ) (lent : ℕ → List Span) where
   denied_end : (n k : ℕ) (r : Refusal) → admission file msg ≡ denied r → listing file msg n (lent n) ≡ End k → ⊥
   denied_end n k r e h =
       let a : listing file msg n (lent n) ≡ Refused r = answer_on file msg n (lent n) (denied r) e in
-      let z : ◌≡◌ {A = ℕ} 0 1 = cc in
-      omega arith
+      cc
 
   module _ (c : Config) (fs : List Font) (acc : admission file msg ≡ admitted c fs) where
     abbrev ps : List Page

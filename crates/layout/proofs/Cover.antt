@@ -4,15 +4,16 @@ use native.Mathlib.Nat.{le_refl, zero-mod}
 use native.Mathlib.Omega.{arith}
 use mathlib.Core.Path.{◌≡◌, refl, sym, ap, ◌∙◌}
 use mathlib.Core.Bool.{Bool, true, false, ◌&&◌}
-use mathlib.Core.Option.{Option, none, some}
+use Rattle.std.specs.Prelude.{Option, Some, None, Result, Ok, Err}
 use mathlib.Core.List.{List, [], ◌∷◌, ◌++◌, map, append_assoc, append-nil}
 use lib.Dec.{leb, ltb, eqb}
 use borrow.Author.Tests.{eqb-true}
+use Rattle.std.proofs.lemmas.Bool.{and_parts}
 use Rattle.base.specs.Pick.{pick}
 use Rattle.value.specs.declared.OptFont.{OptFont}
 use Rattle.value.specs.declared.OptFont.TheVariants.{Some as SomeFont, None as NoFont}
 use Rattle.value.specs.declared.OptNum.{OptNum}
-use Rattle.value.specs.declared.OptNum.TheVariants.{Some, None}
+use Rattle.value.specs.declared.OptNum.TheVariants.{Some as SomeNum, None as NoNum}
 use Rattle.value.specs.declared.Value.{Value}
 use Rattle.value.specs.declared.Value.TheVariants.{ColorBackground, ColorForeground, ColorRectangle, Field, Flash, FlashEnd, Font, Graphic, HexadecimalCharacter, JustificationLine, JustificationPage, ManufacturerSpecific, ManufacturerSpecificEnd, MovingText, NewLine, NewPage, PageBackground, PageTime, SpacingCharacter, SpacingCharacterEnd, Text, TextRectangle}
 use Rattle.reading.specs.declared.Said.{Said}
@@ -25,9 +26,9 @@ use Rattle.layout.specs.declared.Entry.{Entry}
 use Rattle.layout.specs.Types.{Item, place_of, unwrap_or}
 use Rattle.layout.specs.Demand.{In, here, there, Role, text, hexadecimal, rectangle, page_just, new_page as page_role, other, role_of, role_in, Reads, rect_after, just_after, printed_by}
 use Rattle.layout.specs.declared.Step.{Step}
-use Rattle.layout.specs.declared.Step.TheVariants.{Refuse, Go, Emit, Cut, Turn}
+use Rattle.layout.specs.declared.Step.TheVariants.{Go, Emit, Cut, Turn}
 use Rattle.layout.specs.Read.{refusal_at, surrogate, above0, with_just_line, with_just_page, with_char_spacing, with_font, font_step, rect_of, unit, fits, rect_fits, justified, go_if, line_step, value_step, item_step, step, scan, Event, pass, close, stop, whole, new_page, start, follow, read, opening, events}
-use Rattle.layout.proofs.PassLaws.{Grid, and_true}
+use Rattle.layout.proofs.PassLaws.{Grid}
 
 -- ---- one item
 
@@ -102,56 +103,56 @@ pub record SpanOf (st : RenderState) (it : Item) (e : Entry) : Type 0 where
   pub spoken : Spoken e (role_in it.says)
 
 -- what is known of a step; the rectangle stays within a pass
-abbrev pub StepWithin : Config → RenderState → Item → Step → Type 0
-StepWithin s st it (Refuse r) = RefusedIn it.start it.len r
-StepWithin s st it (Go st' b) = Taken s st it st' [] × (st'.rect ≡ st.rect)
-StepWithin s st it (Emit e st' b) = Taken s st it st' (e ∷ []) × (st'.rect ≡ st.rect) × SpanOf st it e
-StepWithin s st it (Cut st') = Taken s st it st' [] × (rect_fits s st'.rect ≡ true)
-StepWithin s st it Turn = Taken s st it (new_page s st) [] × (role_in it.says ≡ page_role)
+abbrev pub StepWithin : Config → RenderState → Item → Result Step Refusal → Type 0
+StepWithin s st it (Err r) = RefusedIn it.start it.len r
+StepWithin s st it (Ok (Go st' b)) = Taken s st it st' [] × (st'.rect ≡ st.rect)
+StepWithin s st it (Ok (Emit e st' b)) = Taken s st it st' (e ∷ []) × (st'.rect ≡ st.rect) × SpanOf st it e
+StepWithin s st it (Ok (Cut st')) = Taken s st it st' [] × (rect_fits s st'.rect ≡ true)
+StepWithin s st it (Ok Turn) = Taken s st it (new_page s st) [] × (role_in it.says ≡ page_role)
 
 -- the same with the value apart
-abbrev ValueWithin : Config → RenderState → Item → Value → Step → Type 0
+abbrev ValueWithin : Config → RenderState → Item → Value → Result Step Refusal → Type 0
 ValueWithin s st it v t = StepWithin s st (record { start = it.start; len = it.len; says = Is v }) t
 
-pick_all : (P : Step → Type 0) (b : Bool) {x y : Step} → (b ≡ true → P x) → (b ≡ false → P y) → P (pick b x y)
+pick_all : (P : Result Step Refusal → Type 0) (b : Bool) {x y : Result Step Refusal} → (b ≡ true → P x) → (b ≡ false → P y) → P (pick b x y)
 pick_all P true f g = f refl
 pick_all P false f g = g refl
 
 fits_grid : (a n all u : ℕ) → fits a n all u ≡ true → a % unit u ≡ 0
 fits_grid a n all u q =
-    let (_, p) = and_true (ltb 0 n) (leb (a + n) all && (eqb (a % unit u) 0 && eqb (n % unit u) 0)) q in
-    let (_, o) = and_true (leb (a + n) all) (eqb (a % unit u) 0 && eqb (n % unit u) 0) p in
-    eqb-true _ _ (and_true (eqb (a % unit u) 0) (eqb (n % unit u) 0) o).0
+    let (_, p) = and_parts (ltb 0 n) (leb (a + n) all && (eqb (a % unit u) 0 && eqb (n % unit u) 0)) q in
+    let (_, o) = and_parts (leb (a + n) all) (eqb (a % unit u) 0 && eqb (n % unit u) 0) p in
+    eqb-true _ _ (and_parts (eqb (a % unit u) 0) (eqb (n % unit u) 0) o).0
 
 rect_grid : (s : Config) (r : Rect) → rect_fits s r ≡ true → Grid s r
 rect_grid s r q =
-    let (a, d) = and_true (fits r.left r.width s.width s.char_width) (fits r.top r.height s.height s.char_height) q in
+    let (a, d) = and_parts (fits r.left r.width s.width s.char_width) (fits r.top r.height s.height s.char_height) q in
     record { across = fits_grid r.left r.width s.width s.char_width a; down = fits_grid r.top r.height s.height s.char_height d }
 
-just_given : (j : OptNum) (d n : ℕ) → justified j d ≡ Some n → unwrap_or j d ≡ n
-just_given None d n e = cc
-just_given (Some k) d n e = go (leb 2 k) (leb k 4) e
+just_given : (j : OptNum) (d n : ℕ) → justified j d ≡ SomeNum n → unwrap_or j d ≡ n
+just_given NoNum d n e = cc
+just_given (SomeNum k) d n e = go (leb 2 k) (leb k 4) e
   where
-    go : (t u : Bool) → pick t (pick u (Some k) None) None ≡ Some n → k ≡ n
+    go : (t u : Bool) → pick t (pick u (SomeNum k) NoNum) NoNum ≡ SomeNum n → k ≡ n
     go true true q = cc
-    go true false q = absurd (let z : ◌≡◌ {A = ℕ} 0 1 = cc in omega arith)
-    go false u q = absurd (let z : ◌≡◌ {A = ℕ} 0 1 = cc in omega arith)
+    go true false q = absurd cc
+    go false u q = absurd cc
 
 module _ (s : Config) (st : RenderState) (blank : Bool) (it : Item) where
   refused : (n : ℕ) → 4 < n → RefusedIn it.start it.len (refusal_at (place_of it) n)
   refused n h = record { late = h; start = refl; length = refl }
 
   -- a value that is nothing to demand 3
-  plain : (v : Value) (st' : RenderState) → role_of v ≡ other → st'.rect ≡ st.rect → st'.just_page ≡ st.just_page → ValueWithin s st it v (Go st' blank)
+  plain : (v : Value) (st' : RenderState) → role_of v ≡ other → st'.rect ≡ st.rect → st'.just_page ≡ st.just_page → ValueWithin s st it v (Ok (Go st' blank))
   plain v st' e r j = (record { reads = tt; prints = rw e; rect = rw e (sym r); just = rw e (sym j) }, r)
 
   line_just_within : (j o : OptNum) → ValueWithin s st it (JustificationLine j) (go_if (place_of it) o (with_just_line st) blank)
-  line_just_within j None = refused 6 (omega arith)
-  line_just_within j (Some n) = plain (JustificationLine j) (with_just_line st n) refl refl refl
+  line_just_within j NoNum = refused 6 (omega arith)
+  line_just_within j (SomeNum n) = plain (JustificationLine j) (with_just_line st n) refl refl refl
 
   page_just_within : (j o : OptNum) → justified j s.page_just ≡ o → ValueWithin s st it (JustificationPage j) (go_if (place_of it) o (with_just_page st) blank)
-  page_just_within j None e = refused 6 (omega arith)
-  page_just_within j (Some n) e = (record { reads = tt; prints = refl; rect = refl; just = just_given j s.page_just n e }, refl)
+  page_just_within j NoNum e = refused 6 (omega arith)
+  page_just_within j (SomeNum n) e = (record { reads = tt; prints = refl; rect = refl; just = just_given j s.page_just n e }, refl)
 
   line_within : (l : OptNum) (b : Bool) → ValueWithin s st it (NewLine l) (line_step (place_of it) st l b)
   line_within l true = (
@@ -161,9 +162,9 @@ module _ (s : Config) (st : RenderState) (blank : Bool) (it : Item) where
   )
   line_within l false = (record { reads = tt; prints = refl; rect = refl; just = refl }, refl)
 
-  font_within : (f : OptFont) → ValueWithin s st it (Font f) (Go (font_step s st f) blank)
+  font_within : (f : OptFont) → ValueWithin s st it (Font f) (Ok (Go (font_step s st f) blank))
   font_within (SomeFont n v) = plain (Font (SomeFont n v)) (with_font st n v) refl refl refl
-  font_within NoFont = plain (Font NoFont) (with_font st s.font None) refl refl refl
+  font_within NoFont = plain (Font NoFont) (with_font st s.font NoNum) refl refl refl
 
   value_within : (v : Value) → TextIn it.start it.len (role_of v) → ValueWithin s st it v (value_step s st blank (place_of it) v)
   value_within (ColorBackground c) h = plain (ColorBackground c) st refl refl refl
@@ -196,8 +197,8 @@ module _ (s : Config) (st : RenderState) (blank : Bool) (it : Item) where
   value_within (PageTime a b) h = plain (PageTime a b) st refl refl refl
   value_within (SpacingCharacter c) h =
       pick_all (ValueWithin s st it (SpacingCharacter c)) (above0 s.char_width c) (λ _. refused 6 (omega arith))
-      (λ _. plain (SpacingCharacter c) (with_char_spacing st (Some c)) refl refl refl)
-  value_within SpacingCharacterEnd h = plain SpacingCharacterEnd (with_char_spacing st None) refl refl refl
+      (λ _. plain (SpacingCharacter c) (with_char_spacing st (SomeNum c)) refl refl refl)
+  value_within SpacingCharacterEnd h = plain SpacingCharacterEnd (with_char_spacing st NoNum) refl refl refl
   value_within (Text p) h =
       pick_all (ValueWithin s st it (Text p)) (ltb st.span 255)
       (λ _. (record { reads = tt; prints = refl; rect = refl; just = refl }, refl, record { state = refl; start = h.0; len = h.1; spoken = (refl, refl) }))
@@ -235,22 +236,22 @@ pub data ReadAs (s : Config) : List Item → RenderState → List Entry → List
       → role_in it.says ≡ page_role → ReadAs s its (new_page s st) [] l → ReadAs s (it ∷ its) st acc (pass st.rect acc ∷ close a b ∷ l)
   -- the next page's scan fails
   fails : {it : Item} {its : List Item} {st : RenderState} {acc : List Entry} {a b : ℕ} {r : Refusal} → Taken s st it (new_page s st) []
-      → role_in it.says ≡ page_role → (p q : ℕ) → (scan s p q its).fault ≡ some r
+      → role_in it.says ≡ page_role → (p q : ℕ) → (scan s p q its).fault ≡ Some r
       → ReadAs s (it ∷ its) st acc (pass st.rect acc ∷ close a b ∷ stop r ∷ [])
 
 module _ (s : Config) (it : Item) (its : List Item) (k : ℕ → ℕ → RenderState → Bool → List Entry → List Event)
     (hyp : (a b : ℕ) (st : RenderState) (bl : Bool) (acc : List Entry) → ReadAs s its st acc (k a b st bl acc)) where
-  turn_as : (a b : ℕ) (st : RenderState) (acc : List Entry) (o : Option Refusal) → StepWithin s st it Turn → (scan s a b its).fault ≡ o
-      → ReadAs s (it ∷ its) st acc (follow s a b st acc its k Turn)
-  turn_as a b st acc none f q = rw q (turns f.0 f.1 (hyp _ _ (new_page s st) true []))
-  turn_as a b st acc (some r) f q = rw q (fails f.0 f.1 a b q)
+  turn_as : (a b : ℕ) (st : RenderState) (acc : List Entry) (o : Option Refusal) → StepWithin s st it (Ok Turn) → (scan s a b its).fault ≡ o
+      → ReadAs s (it ∷ its) st acc (follow s a b st acc its k (Ok Turn))
+  turn_as a b st acc None f q = rw q (turns f.0 f.1 (hyp _ _ (new_page s st) true []))
+  turn_as a b st acc (Some r) f q = rw q (fails f.0 f.1 a b q)
 
-  follow_as : (a b : ℕ) (st : RenderState) (acc : List Entry) (t : Step) → StepWithin s st it t → ReadAs s (it ∷ its) st acc (follow s a b st acc its k t)
-  follow_as a b st acc (Refuse r) f = refuses f
-  follow_as a b st acc (Go st' bl) f = goes f.0 f.1 (hyp a b st' bl acc)
-  follow_as a b st acc (Emit e st' bl) f = emits f.0 f.1 f.2 (hyp a b st' bl (acc ++ (e ∷ [])))
-  follow_as a b st acc (Cut st') f = cuts f.0 f.1 (hyp a b st' true [])
-  follow_as a b st acc Turn f = turn_as a b st acc (scan s a b its).fault f refl
+  follow_as : (a b : ℕ) (st : RenderState) (acc : List Entry) (t : Result Step Refusal) → StepWithin s st it t → ReadAs s (it ∷ its) st acc (follow s a b st acc its k t)
+  follow_as a b st acc (Err r) f = refuses f
+  follow_as a b st acc (Ok (Go st' bl)) f = goes f.0 f.1 (hyp a b st' bl acc)
+  follow_as a b st acc (Ok (Emit e st' bl)) f = emits f.0 f.1 f.2 (hyp a b st' bl (acc ++ (e ∷ [])))
+  follow_as a b st acc (Ok (Cut st')) f = cuts f.0 f.1 (hyp a b st' true [])
+  follow_as a b st acc (Ok Turn) f = turn_as a b st acc (scan s a b its).fault f refl
 
 pub read_as : (s : Config) (its : List Item) (a b : ℕ) (st : RenderState) (bl : Bool) (acc : List Entry) → Honest its
     → ReadAs s its st acc (read s its a b st bl acc)
@@ -260,7 +261,7 @@ read_as s (it ∷ its) a b st bl acc h =
 
 -- the events of a message: its first page's scan fails, or it is read
 pub data EventsAs (s : Config) (its : List Item) : List Event → Type 0 where
-  refused_at_once : {r : Refusal} (a b : ℕ) → (scan s a b its).fault ≡ some r → EventsAs s its (stop r ∷ [])
+  refused_at_once : {r : Refusal} (a b : ℕ) → (scan s a b its).fault ≡ Some r → EventsAs s its (stop r ∷ [])
   begun : {l : List Event} → ReadAs s its (start s) [] l → EventsAs s its l
 
 pub events_as : (s : Config) (its : List Item) → Honest its → EventsAs s its (events s its)
@@ -268,8 +269,8 @@ unfolding events opening
 events_as s its h = look (scan s s.on_time s.off_time its).fault refl
   where
     look : (o : Option Refusal) → (scan s s.on_time s.off_time its).fault ≡ o → EventsAs s its (events s its)
-    look none q = rw q (begun (read_as s its _ _ (start s) true [] h))
-    look (some r) q = rw q (refused_at_once s.on_time s.off_time q)
+    look None q = rw q (begun (read_as s its _ _ (start s) true [] h))
+    look (Some r) q = rw q (refused_at_once s.on_time s.off_time q)
 
 -- ---- the spans
 

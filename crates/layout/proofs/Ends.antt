@@ -4,7 +4,7 @@ use native.Mathlib.Omega.{arith}
 use native.Mathlib.Nat.{add-zero, zero-add}
 use mathlib.Core.Path.{◌≡◌, refl, sym, ap, ◌∙◌, subst}
 use mathlib.Core.Bool.{Bool, true, false}
-use mathlib.Core.Option.{Option, none, some}
+use Rattle.std.specs.Prelude.{Option, Some, None}
 use mathlib.Core.List.{List, [], ◌∷◌, ◌++◌, map}
 use lib.Dec.{ltb}
 use borrow.Author.Tests.{ltb-true, ltb-false, le-ltb}
@@ -21,7 +21,8 @@ use Rattle.records.specs.declared.Config.{Config}
 use Rattle.layout.specs.Types.{Item, item_at, items, Board}
 use Rattle.layout.specs.Fonts.{board_of}
 use Rattle.layout.specs.Placing.{pass_records}
-use Rattle.layout.specs.Read.{Scan, Event, pass, close, stop, opening, events}
+use Rattle.layout.specs.declared.Scan.{Scan}
+use Rattle.layout.specs.Read.{Event, pass, close, stop, opening, events}
 use Rattle.layout.specs.Listing.{Page, on, off, refused, stop_at, offs, pass_stop, walk, pages, numbered, listing, Result, result_on}
 use Rattle.layout.specs.Demand.{Shows, role_in}
 use Rattle.layout.specs.Bounds.{breaks, page_breaks, Stops, StopsBy}
@@ -43,8 +44,8 @@ offs_le zero l = omega arith
 offs_le (suc n) l = omega arith
 
 stop_le : (f : Option Refusal) (l : List Page) (n : ℕ) → length l ≤ n → 0 < n → length (stop_at f l) ≤ n
-stop_le none l n h p = h
-stop_le (some r) l n h p = p
+stop_le None l n h p = h
+stop_le (Some r) l n h p = p
 
 walk_le : (s : Board) (evs : List Event) (a b : ℕ) (rs : List Span) (n : ℕ) → length (walk s evs a b rs n) ≤ 2 * suc (closes evs)
 walk_le s [] a b rs n = omega (arith, offs_le b [])
@@ -150,10 +151,10 @@ always_stops file msg lent = look (admission file msg) refl
 -- ---- "From a refused answer on, every later answer is that refusal"
 
 numbered_stays : (x : Refusal) (c : ℕ) (l : List Page) (n m : ℕ) → n ≤ m → (numbered c l n).answer ≡ Refused x → (numbered c l m).answer ≡ Refused x
-numbered_stays x c [] n m h e = absurd (let z : ◌≡◌ {A = ℕ} 0 1 = cc in omega arith)
+numbered_stays x c [] n m h e = absurd cc
 numbered_stays x c (p ∷ l) zero zero h e = e
-numbered_stays x c (on d rs ∷ l) zero (suc m) h e = absurd (let z : ◌≡◌ {A = ℕ} 0 1 = cc in omega arith)
-numbered_stays x c (off d ∷ l) zero (suc m) h e = absurd (let z : ◌≡◌ {A = ℕ} 0 1 = cc in omega arith)
+numbered_stays x c (on d rs ∷ l) zero (suc m) h e = absurd cc
+numbered_stays x c (off d ∷ l) zero (suc m) h e = absurd cc
 numbered_stays x c (refused r ∷ l) zero (suc m) h e = e
 numbered_stays x c (p ∷ l) (suc n) zero h e = absurd (omega arith)
 numbered_stays x c (on d rs ∷ l) (suc n) (suc m) h e = numbered_stays x (suc c) l n m (omega arith) e

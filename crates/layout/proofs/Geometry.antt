@@ -4,7 +4,7 @@ use native.Mathlib.Nat.{add-mod, zero-mod, le_refl, le-div_iff_mul-le, div-mul-l
 use native.Mathlib.Omega.{arith}
 use mathlib.Core.Path.{◌≡◌, refl, ◌∙◌, subst}
 use mathlib.Core.Bool.{Bool, true, false}
-use mathlib.Core.Option.{Option, some}
+use Rattle.std.specs.Prelude.{Option, Some}
 use mathlib.Core.List.{List, [], ◌∷◌}
 use lib.Dec.{leb, ltb, eqb}
 use borrow.Author.Tests.{lt-ltb, le-ltb, le-leb, lt-leb, eqb-true}
@@ -34,7 +34,7 @@ trunc_ge u x k e h =
 -- the width of a group, with the span before it
 abbrev pub widths : Meter → Option Entry → List Entry → ℕ
 widths m p [] = 0
-widths m p (e ∷ es) = gap m p e + (m.width e + widths m (some e) es)
+widths m p (e ∷ es) = gap m p e + (m.width e + widths m (Some e) es)
 
 halves : (b : Bool) (x : ℕ) → pick b x 0 + pick b 0 x ≡ x
 halves true x = omega arith
@@ -43,11 +43,11 @@ halves false x = omega arith
 pub before_after : (m : Meter) (n : ℕ) (p : Option Entry) (es : List Entry) → sum_before m n p es + sum_after m n p es ≡ widths m p es
 before_after m n p [] = refl
 before_after m n p (e ∷ es) =
-    omega (arith, halves (leb e.state.span n) (gap m p e), halves (ltb e.state.span n) (m.width e), before_after m n (some e) es)
+    omega (arith, halves (leb e.state.span n) (gap m p e), halves (ltb e.state.span n) (m.width e), before_after m n (Some e) es)
 
 pub width_after_law : (m : Meter) (p : Option Entry) {e : Entry} {es : List Entry} → In e es → m.width e ≤ sum_after m e.state.span p es
 width_after_law m p (here {a = e}) = rw (le-ltb e.state.span e.state.span (le_refl _)) (omega arith)
-width_after_law m p (there {b = c} i) = omega (arith, width_after_law m (some c) i)
+width_after_law m p (there {b = c} i) = omega (arith, width_after_law m (Some c) i)
 
 pub inside_x : (j cw : ℕ) (r : Rect) (b a w : ℕ) → r.left % unit cw ≡ 0 → w ≤ a → b + a ≤ r.width
     → (r.left ≤ place_x j cw r b a) × (place_x j cw r b a + w ≤ r.left + r.width)
@@ -75,7 +75,7 @@ tall (suc n) (l ∷ ls) = max l.height (tall n ls)
 pub tall_above : (ch n : ℕ) (p : Option Line) (ls : List Line) → tall n ls ≤ above ch n p ls
 tall_above ch n p [] = omega arith
 tall_above ch zero p (l ∷ ls) = omega arith
-tall_above ch (suc n) p (l ∷ ls) = omega (arith, tall_above ch n (some l) ls)
+tall_above ch (suc n) p (l ∷ ls) = omega (arith, tall_above ch n (Some l) ls)
 
 tall_add : (k n : ℕ) (l : Line) (ls : List Line) → tall n ls ≤ tall n (add_line k l ls)
 tall_add k n l [] = omega arith
@@ -138,7 +138,7 @@ before_none : (m : Meter) (k n : ℕ) (p : Option Entry) (es : List Entry) → k
 before_none m k n p [] h f = refl
 before_none m k n p (e ∷ es) h f =
     rw (lt-leb e.state.span k (omega arith), le-ltb e.state.span k (omega arith))
-    (omega (arith, before_none m k e.state.span (some e) es (omega arith) f.1))
+    (omega (arith, before_none m k e.state.span (Some e) es (omega arith) f.1))
 
 pub before_next : (m : Meter) (p : Option Entry) {a b : Entry} {es : List Entry} → Next a b es → Rises (spans es)
     → sum_before m b.state.span p es ≡ sum_before m a.state.span p es + (m.width a + due m a b)
@@ -147,13 +147,13 @@ before_next m p (first {a = a} {b = b} {l = l}) f =
     let j : ℕ = b.state.span in
     rw (le-leb i j (omega arith), lt-ltb i j f.0, le-leb j j (le_refl _), le-ltb j j (le_refl _))
     (rw (le-leb i i (le_refl _), le-ltb i i (le_refl _), lt-leb j i f.0, le-ltb j i (omega arith))
-    (omega (arith, before_none m j j (some b) l (le_refl _) f.1, before_none m i j (some b) l (omega arith) f.1)))
+    (omega (arith, before_none m j j (Some b) l (le_refl _) f.1, before_none m i j (Some b) l (omega arith) f.1)))
 before_next m p (later {a = a} {b = b} {c = c} {l = l} i) f =
     let k : ℕ = c.state.span in
     let ha : k < a.state.span = from_in k (next_left i) f in
     let hb : k < b.state.span = from_in k (next_right i) f in
     rw (le-leb k a.state.span (omega arith), lt-ltb k a.state.span ha, le-leb k b.state.span (omega arith), lt-ltb k b.state.span hb)
-    (omega (arith, before_next m (some c) i (from_rises c.state.span (spans l) f)))
+    (omega (arith, before_next m (Some c) i (from_rises c.state.span (spans l) f)))
 
 next_place : (t u : Bool) (cw : ℕ) (r : Rect) (b₁ a₁ b₂ a₂ w d : ℕ) → (u ≡ true → cw ≤ 1) → b₂ ≡ b₁ + (w + d) → b₁ + a₁ ≡ b₂ + a₂ → b₁ + a₁ ≤ r.width
     → pick t (r.left + b₂) (pick u (trunc cw (r.left + (r.width - b₂ - a₂) / 2 + b₂)) (r.left + r.width - a₂))

@@ -1,4 +1,3 @@
-pub mod States
 pub mod Geometry
 pub mod PassLaws
 pub mod Cover

@@ -5,9 +5,11 @@ use native.Mathlib.Omega.{arith}
 use mathlib.Core.Path.{◌≡◌, refl, sym, ap, ◌∙◌}
 use mathlib.Core.Logic.{◌⊎◌, inl, inr}
 use mathlib.Core.Bool.{Bool, true, false}
-use mathlib.Core.Option.{Option, none, some}
+use mathlib.Core.Option.{Option as Maybe, none, some}
+use Rattle.std.specs.Prelude.{Option, Some, None}
 use mathlib.Core.List.{List, [], ◌∷◌, ◌++◌, map, append_assoc}
 use lib.Dec.{eqb}
+use Rattle.std.proofs.lemmas.List.{map-append}
 use Rattle.base.specs.Pick.{pick}
 use Rattle.token.specs.Token.{Slice, slices}
 use Rattle.records.specs.declared.Config.{Config}
@@ -16,13 +18,15 @@ use Rattle.refusal.specs.declared.Refusal.{Refusal}
 use Rattle.layout.specs.declared.Span.{Span}
 use Rattle.layout.specs.declared.Rect.{Rect}
 use Rattle.layout.specs.declared.Entry.{Entry}
+use Rattle.layout.specs.declared.Fault.{Fault}
 use Rattle.layout.specs.Types.{Item, item_at, items, Board}
 use Rattle.font.specs.Table.{font_numbered}
 use Rattle.font.specs.declared.Measure.{Measure}
 use Rattle.font.specs.declared.Measure.TheVariants.{Width, Missing}
 use Rattle.layout.specs.Fonts.{version_fault, missing, width_of, measure_in, char_fault_after, fault_in, width_in, height_in, meter_of, board_of}
 use Rattle.layout.specs.Placing.{keep, select, same, first_fault, fault_at, span_fault, pass_fault, pass_records, record_of}
-use Rattle.layout.specs.Read.{Scan, Event, pass, close, stop, whole, opening, events}
+use Rattle.layout.specs.declared.Scan.{Scan}
+use Rattle.layout.specs.Read.{Event, pass, close, stop, whole, opening, events}
 use Rattle.layout.specs.Listing.{Page, on, off, refused, stop_at, offs, pass_stop, walk, pages}
 use Rattle.layout.specs.Demand.{Reads, rect_after, just_after, at_place, rect_at_place, just_at_place, Across, Down, In, here, there, From, Rises, printed_records, printed, placed, Tells, Measured, Divides, Stands}
 use Rattle.layout.proofs.Geometry.{next_left, from_rises}
@@ -51,11 +55,11 @@ records (refused r ∷ l) = records l
 pub record Walked (s : Board) (evs : List Event) (rs : List Span) (l : List Page) : Type 0 where
   pub runs : Runs evs
   pub listed : records l ≡ rs ++ placed s evs
-  pub fine : EachPass (λ r es. pass_fault s r es ≡ none) evs
+  pub fine : EachPass (λ r es. pass_fault s r es ≡ None) evs
 
-pub no_stop : (f : Option Refusal) (l : List Page) → NoRefusal (stop_at f l) → (f ≡ none) × NoRefusal l × (stop_at f l ≡ l)
-no_stop none l h = (refl, h, refl)
-no_stop (some r) l h = absurd h
+pub no_stop : (f : Option Refusal) (l : List Page) → NoRefusal (stop_at f l) → (f ≡ None) × NoRefusal l × (stop_at f l ≡ l)
+no_stop None l h = (refl, h, refl)
+no_stop (Some r) l h = absurd h
 
 pub no_offs : (n : ℕ) (l : List Page) → NoRefusal (offs n l) → NoRefusal l × (records (offs n l) ≡ records l)
 no_offs zero l h = (h, refl)
@@ -85,10 +89,6 @@ printed_entries_append : (a b : List Entry) → printed_entries (a ++ b) ≡ pri
 printed_entries_append [] b = refl
 printed_entries_append (q ∷ a) b = rw (printed_entries_append a b) (simp append_assoc)
 
-pub map_append : {A B : Type 0} (f : A → B) (a b : List A) → map f (a ++ b) ≡ map f a ++ map f b
-map_append f [] b = refl
-map_append f (x ∷ a) b = rw (map_append f a b)
-
 pass_printed : (s : Board) (r : Rect) (es l : List Entry) → printed_records (map (record_of s r es) l) ≡ printed_entries l
 unfolding record_of
 pass_printed s r es [] = refl
@@ -111,8 +111,8 @@ placed_starts : (s : Board) (evs : List Event) → map (λ q. q.start) (placed s
 unfolding pass_records
 placed_starts s [] = refl
 placed_starts s (pass r es ∷ evs) =
-    map_append (λ q. q.start) (map (record_of s r es) es) (placed s evs)
-    ∙ rw (pass_starts s r es es, placed_starts s evs) (sym (map_append (λ e. e.start) es (entries evs)))
+    map-append (λ q. q.start) (map (record_of s r es) es) (placed s evs)
+    ∙ rw (pass_starts s r es es, placed_starts s evs) (sym (map-append (λ e. e.start) es (entries evs)))
 placed_starts s (close a b ∷ evs) = placed_starts s evs
 placed_starts s (stop x ∷ evs) = placed_starts s evs
 
@@ -184,7 +184,7 @@ module _ (s : Board) where
 
 -- ---- a pass without a fault
 
-pub first_none : {A : Type 0} {B : Type 0} (f : A → Option B) {e : A} {l : List A} → In e l → first_fault f l ≡ none → f e ≡ none
+pub first_none : {A : Type 0} {B : Type 0} (f : A → Option B) {e : A} {l : List A} → In e l → first_fault f l ≡ None → f e ≡ None
 first_none f here q = (or_none _ _ q).0
 first_none f (there i) q = first_none f i (or_none _ _ q).1
 
@@ -198,19 +198,19 @@ of_select f (c ∷ l) i = in_kept (f c) c (λ j. of_select f l j) i
 of_select {A = A} f {e = e} [] i = elim i [ ]
 
 -- a span's font is there, and measures its text
-measure_none : (m : Measure) → missing m ≡ none → m ≡ Width (width_of m)
+measure_none : (m : Measure) → missing m ≡ None → m ≡ Width (width_of m)
 measure_none (Width w) q = refl
-measure_none (Missing c) q = absurd (let z : ◌≡◌ {A = ℕ} 0 1 = cc in omega arith)
+measure_none (Missing c) q = absurd cc
 
-char_none : (msg : List ℕ) (e : Entry) (capitals : Bool) (f : Font) (x : Option (ℕ × ℕ)) → char_fault_after msg e capitals x f ≡ none
+char_none : (msg : List ℕ) (e : Entry) (capitals : Bool) (f : Font) (x : Option Fault) → char_fault_after msg e capitals x f ≡ None
     → measure_in msg e capitals f ≡ Width (width_in msg e capitals (some f))
-char_none msg e capitals f none q = measure_none (measure_in msg e capitals f) q
-char_none msg e capitals f (some x) q = absurd (let z : ◌≡◌ {A = ℕ} 0 1 = cc in omega arith)
+char_none msg e capitals f None q = measure_none (measure_in msg e capitals f) q
+char_none msg e capitals f (Some x) q = absurd cc
 
-measured_in : (c : Config) (msg : List ℕ) (fs : List Font) (e : Entry) (q : Span) (o : Option Font) → font_numbered e.state.font fs ≡ o
-    → fault_in msg e c.capitals o ≡ none → q.width ≡ width_in msg e c.capitals o → q.height ≡ height_in o → Measured c msg fs e q
+measured_in : (c : Config) (msg : List ℕ) (fs : List Font) (e : Entry) (q : Span) (o : Maybe Font) → font_numbered e.state.font fs ≡ o
+    → fault_in msg e c.capitals o ≡ None → q.width ≡ width_in msg e c.capitals o → q.height ≡ height_in o → Measured c msg fs e q
 unfolding measure_in
-measured_in c msg fs e q none p f w h = absurd (let z : ◌≡◌ {A = ℕ} 0 1 = cc in omega arith)
+measured_in c msg fs e q none p f w h = absurd cc
 measured_in c msg fs e q (some f) p g w h =
     record {
       font = f;
@@ -219,9 +219,9 @@ measured_in c msg fs e q (some f) p g w h =
       height = h;
     }
 
-fault_none : (s : Board) (r : Rect) (es : List Entry) (e : Entry) (x : Option (ℕ × ℕ)) → fault_at s r es e x ≡ none → x ≡ none
-fault_none s r es e none q = refl
-fault_none s r es e (some x) q = absurd (let z : ◌≡◌ {A = ℕ} 0 1 = cc in omega arith)
+fault_none : (s : Board) (r : Rect) (es : List Entry) (e : Entry) (x : Option Fault) → fault_at s r es e x ≡ None → x ≡ None
+fault_none s r es e None q = refl
+fault_none s r es e (Some x) q = absurd cc
 
 -- every span's height is a font's
 height_even : (u n : ℕ) (fs : List Font) → ((f : Font) → In f fs → f.height % u ≡ 0) → height_in (font_numbered n fs) % u ≡ 0
@@ -241,11 +241,11 @@ module _ (c : Config) (fs : List Font) (msg : List ℕ) where
   even (inl z) = inl z
   even (inr d) = inr (λ e. height_even c.char_height e.state.font fs d)
 
-  meter_fault : (r : Rect) (es : List Entry) (e : Entry) → In e es → span_fault s r es e ≡ none → s.meter.fault e ≡ none
+  meter_fault : (r : Rect) (es : List Entry) (e : Entry) → In e es → span_fault s r es e ≡ None → s.meter.fault e ≡ None
   unfolding span_fault
   meter_fault r es e i q = first_none s.meter.fault (in_select (same e) (same_refl e) i) (fault_none s r es e _ (or_none _ _ q).0)
 
-  pub measured : (r : Rect) (es : List Entry) (e : Entry) → In e es → span_fault s r es e ≡ none → Measured c msg fs e (record_of s r es e)
+  pub measured : (r : Rect) (es : List Entry) (e : Entry) → In e es → span_fault s r es e ≡ None → Measured c msg fs e (record_of s r es e)
   unfolding record_of board_of meter_of
   measured r es e i q = measured_in c msg fs e (record_of s r es e) (font_numbered e.state.font fs) refl (meter_fault r es e i q) refl refl
 
@@ -269,10 +269,10 @@ module _ (c : Config) (fs : List Font) (msg : List ℕ) where
   abbrev Known : Rect → List Entry → Type 0
   Known r es = (e : Entry) → In e es → Seen c (rect_at_place c msg) (just_at_place c msg) r e
 
-  pass_fine : (r : Rect) (es : List Entry) → Grid c r → Known r es → pass_fault s r es ≡ none → Stands c fs msg r es
+  pass_fine : (r : Rect) (es : List Entry) → Grid c r → Known r es → pass_fault s r es ≡ None → Stands c fs msg r es
   unfolding pass_fault record_of board_of
   pass_fine r es g k q =
-      let h : first_fault (span_fault s r es) es ≡ none = (or_none _ _ q).1 in
+      let h : first_fault (span_fault s r es) es ≡ None = (or_none _ _ q).1 in
       record {
         rect = λ e i. (k e i).rect;
         just = λ e i. (k e i).just;
@@ -283,7 +283,7 @@ module _ (c : Config) (fs : List Font) (msg : List ℕ) where
         spacing = λ a b n u w. spacing s r es a b w n u (first_none (span_fault s r es) (of_select (same a) es (next_left n)) h);
       }
 
-  each_fine : (evs : List Event) → EachPass (λ r es. Grid c r) evs → EachPass Known evs → EachPass (λ r es. pass_fault s r es ≡ none) evs
+  each_fine : (evs : List Event) → EachPass (λ r es. Grid c r) evs → EachPass Known evs → EachPass (λ r es. pass_fault s r es ≡ None) evs
       → {r : Rect} {es : List Entry} → In (pass r es) evs → Stands c fs msg r es
   each_fine (pass r es ∷ evs) g k p here = pass_fine r es g.0 k.0 p.0
   each_fine (pass r es ∷ evs) g k p (there i) = each_fine evs g.1 k.1 p.1 i

@@ -5,10 +5,11 @@ use native.Mathlib.Omega.{arith}
 use mathlib.Core.Path.{◌≡◌, refl, sym, ◌∙◌}
 use mathlib.Core.Logic.{◌⊎◌, inl, inr}
 use mathlib.Core.Bool.{Bool, true, false, ◌&&◌}
-use mathlib.Core.Option.{Option, none, some}
+use Rattle.std.specs.Prelude.{Option, Some, None}
 use mathlib.Core.List.{List, [], ◌∷◌}
 use lib.Dec.{eqb}
 use borrow.Author.Tests.{eq-eqb, leb-true, eqb-true}
+use Rattle.std.proofs.lemmas.Bool.{and_parts}
 use Rattle.records.specs.declared.Config.{Config}
 use Rattle.layout.specs.declared.Rect.{Rect}
 use Rattle.layout.specs.declared.Entry.{Entry}
@@ -20,19 +21,15 @@ use Rattle.layout.proofs.Geometry.{inside_x, inside_y, next_x, before_next, befo
 
 -- ---- tests
 
-pub or_none {ℓ} : {A : Type ℓ} (a b : Option A) → or_else a b ≡ none → (a ≡ none) × (b ≡ none)
+pub or_none : {A : Type 0} (a b : Option A) → or_else a b ≡ None → (a ≡ None) × (b ≡ None)
 unfolding or_else
-or_none none b e = (refl, e)
-or_none (some x) b e = absurd (let z : ◌≡◌ {A = ℕ} 0 1 = cc in omega arith)
+or_none None b e = (refl, e)
+or_none (Some x) b e = absurd cc
 
-pub unless_none {ℓ} : {A : Type ℓ} (b : Bool) (a : A) → unless b a ≡ none → b ≡ true
+pub unless_none : {A : Type 0} (b : Bool) (a : A) → unless b a ≡ None → b ≡ true
 unfolding unless
 unless_none true a e = refl
-unless_none false a e = absurd (let z : ◌≡◌ {A = ℕ} 0 1 = cc in omega arith)
-
-pub and_true : (a b : Bool) → a && b ≡ true → (a ≡ true) × (b ≡ true)
-and_true true b e = (refl, e)
-and_true false b e = absurd (let z : ◌≡◌ {A = ℕ} 0 1 = cc in omega arith)
+unless_none false a e = absurd cc
 
 -- ---- a group
 
@@ -68,9 +65,9 @@ pub record Same (a b : Entry) : Type 0 where
 
 same_true : (a b : Entry) → same a b ≡ true → Same a b
 same_true a b q =
-    let (p, r) = and_true (eqb a.state.just_page b.state.just_page)
+    let (p, r) = and_parts (eqb a.state.just_page b.state.just_page)
     (eqb a.state.line b.state.line && eqb a.state.just_line b.state.just_line) q in
-    let (l, j) = and_true (eqb a.state.line b.state.line) (eqb a.state.just_line b.state.just_line) r in
+    let (l, j) = and_parts (eqb a.state.line b.state.line) (eqb a.state.just_line b.state.just_line) r in
     record { just_page = eqb-true _ _ p; line = eqb-true _ _ l; just_line = eqb-true _ _ j }
 
 same_group : (s : Board) (r : Rect) (es : List Entry) (a b : Entry) → Same a b → group s r es a ≡ group s r es b
@@ -84,7 +81,7 @@ pub record Passed (s : Board) (r : Rect) (es : List Entry) (e : Entry) : Type 0 
   pub height : above_of s r es e + below_of s r es e ≤ r.height
   pub base : s.meter.height e ≤ base_of s r es e
 
-pub passed : (s : Board) (r : Rect) (es : List Entry) (e : Entry) → span_fault s r es e ≡ none → Passed s r es e
+pub passed : (s : Board) (r : Rect) (es : List Entry) (e : Entry) → span_fault s r es e ≡ None → Passed s r es e
 unfolding span_fault
 passed s r es e q =
     let (_, q₁) = or_none _ _ q in
@@ -98,11 +95,11 @@ pub record Grid (c : Config) (r : Rect) : Type 0 where
   pub across : r.left % unit c.char_width ≡ 0
   pub down : r.top % unit c.char_height ≡ 0
 
-pub across : (s : Board) (r : Rect) (es : List Entry) (e : Entry) → Grid s.config r → In e es → span_fault s r es e ≡ none → Across r (record_of s r es e)
+pub across : (s : Board) (r : Rect) (es : List Entry) (e : Entry) → Grid s.config r → In e es → span_fault s r es e ≡ None → Across r (record_of s r es e)
 unfolding record_of x_of before_of after_of
 across s r es e g i q =
     let (l, w) = inside_x e.state.just_line s.config.char_width r _ _ (s.meter.width e) g.across
-    (width_after_law s.meter none (in_select (same e) (same_refl e) i)) (passed s r es e q).width in
+    (width_after_law s.meter None (in_select (same e) (same_refl e) i)) (passed s r es e q).width in
     record { left = l; right = w }
 
 divides_unit : (c h : ℕ) → h % c ≡ 0 → h % unit c ≡ 0
@@ -120,20 +117,20 @@ divides s e (inl z) = rw z (mod-one _)
 divides s e (inr d) = divides_unit s.config.char_height _ (d e)
 
 pub down : (s : Board) (r : Rect) (es : List Entry) (e : Entry) → Grid s.config r → (e.state.just_page ≡ 3 → Even s)
-    → In e es → span_fault s r es e ≡ none → Down r (record_of s r es e)
+    → In e es → span_fault s r es e ≡ None → Down r (record_of s r es e)
 unfolding record_of base_of above_of below_of lines_of
 down s r es e g d i q =
     let t : Passed s r es e = passed s r es e q in
     let (o, b) = inside_y e.state.just_page s.config.char_height r (above_of s r es e) (below_of s r es e)
     (s.meter.height e) g.down (λ z. divides s e (d z))
     (le_trans (tall_in s.meter [] (in_select (same_page e) (eq-eqb e.state.just_page e.state.just_page refl) i))
-    (tall_above s.config.char_height e.state.line none (lines_of s r es e)))
+    (tall_above s.config.char_height e.state.line None (lines_of s r es e)))
     t.height t.base in
     record { top = o; bottom = b }
 
 pub spacing : (s : Board) (r : Rect) (es : List Entry) (a b : Entry)
     → (a.state.just_line ≡ 3 → s.config.char_width ≤ 1) → Next a b (group s r es a) → Rises (spans (group s r es a))
-    → span_fault s r es a ≡ none → x_of s r es b ≡ x_of s r es a + s.meter.width a + due s.meter a b
+    → span_fault s r es a ≡ None → x_of s r es b ≡ x_of s r es a + s.meter.width a + due s.meter a b
 unfolding x_of before_of after_of
 spacing s r es a b c n u q =
     let m : Meter = s.meter in
@@ -143,8 +140,8 @@ spacing s r es a b c n u q =
     let o : List Entry = group s r es a in
     let i : ℕ = a.state.span in
     let j : ℕ = b.state.span in
-    let e : sum_before m j none o ≡ sum_before m i none o + (m.width a + due m a b) = before_next m none n u in
-    let x : x_of s r es b ≡ place_x a.state.just_line s.config.char_width r (sum_before m j none o) (sum_after m j none o) = rw (g, k.just_line) in
+    let e : sum_before m j None o ≡ sum_before m i None o + (m.width a + due m a b) = before_next m None n u in
+    let x : x_of s r es b ≡ place_x a.state.just_line s.config.char_width r (sum_before m j None o) (sum_after m j None o) = rw (g, k.just_line) in
     x
     ∙ next_x a.state.just_line s.config.char_width r _ _ _ _ (m.width a) (due m a b) c e
-    (before_after m i none o ∙ sym (before_after m j none o)) t.width
+    (before_after m i None o ∙ sym (before_after m j None o)) t.width

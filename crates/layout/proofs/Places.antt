@@ -3,7 +3,8 @@ use Prim.Native.Nat.{ℕ, zero, suc, ◌+◌, ◌≤◌, ◌<◌}
 use native.Mathlib.Omega.{arith}
 use mathlib.Core.Path.{◌≡◌, refl, sym, ap, ◌∙◌}
 use mathlib.Core.Bool.{Bool, true, false, not}
-use mathlib.Core.Option.{Option, none, some}
+use mathlib.Core.Option.{Option as Maybe, none, some}
+use Rattle.std.specs.Prelude.{Option, Some, None, Result, Ok, Err}
 use mathlib.Core.List.{List, [], ◌∷◌, ◌++◌}
 use lib.Dec.{eqb}
 use mathlib.Core.Logic.{◌⊎◌, inl, inr}
@@ -11,7 +12,7 @@ use borrow.Author.Tests.{ne_eqb}
 use lib.ListN.{length}
 use Rattle.base.specs.Pick.{pick}
 use Rattle.value.specs.declared.OptNum.{OptNum}
-use Rattle.value.specs.declared.OptNum.TheVariants.{Some, None}
+use Rattle.value.specs.declared.OptNum.TheVariants.{Some as SomeNum, None as NoNum}
 use Rattle.value.specs.declared.Value.{Value}
 use Rattle.value.specs.declared.Value.TheVariants.{ColorBackground, ColorForeground, ColorRectangle, Field, Flash, FlashEnd, Font as SetFont, Graphic, HexadecimalCharacter, JustificationLine, JustificationPage, ManufacturerSpecific, ManufacturerSpecificEnd, MovingText, NewLine, NewPage, PageBackground, PageTime, SpacingCharacter, SpacingCharacterEnd, Text, TextRectangle}
 use Rattle.value.specs.Tag.{tag_of, has_tag}
@@ -28,16 +29,18 @@ use Rattle.layout.specs.declared.Answer.TheVariants.{On, Off, End, Refused}
 use Rattle.layout.specs.declared.Rect.{Rect}
 use Rattle.layout.specs.declared.RenderState.{RenderState}
 use Rattle.layout.specs.declared.Entry.{Entry}
+use Rattle.layout.specs.declared.Fault.{Fault}
 use Rattle.layout.specs.declared.Mark.{Mark}
-use Rattle.layout.specs.declared.Mark.TheVariants.{Plain, Ends, Timed, Wrong}
+use Rattle.layout.specs.declared.Mark.TheVariants.{Plain, Ends, Timed}
+use Rattle.layout.specs.declared.Scan.{Scan}
 use Rattle.layout.specs.Types.{Item, items, Board}
 use Rattle.refusal.specs.Refusals.{refusal}
 use Rattle.font.specs.Table.{font_numbered}
 use Rattle.font.specs.declared.Measure.{Measure}
 use Rattle.font.specs.declared.Measure.TheVariants.{Width, Missing}
-use Rattle.layout.specs.Fonts.{version_fault, missing, measure_in, font_fault_in, char_fault_after, fault_in, meter_of, board_of}
+use Rattle.layout.specs.Fonts.{fault, version_fault, missing, measure_in, font_fault_in, char_fault_after, fault_in, meter_of, board_of}
 use Rattle.layout.specs.Placing.{or_else, unless, first_fault, group, page, fault_at, span_fault, goes_back, back_fault, pass_fault, pass_records}
-use Rattle.layout.specs.Read.{tagged, mark_item, scan_by, Scan, scan, Event, pass, close, stop, opening, events}
+use Rattle.layout.specs.Read.{tagged, mark_item, scan_by, scan, Event, pass, close, stop, opening, events}
 use Rattle.layout.specs.Listing.{Page, on, off, refused, stop_at, offs, pass_stop, walk, pages, numbered, result_on, listing}
 use Rattle.layout.proofs.Cover.{Within, ReadAs, ends, refuses, goes, emits, cuts, turns, fails, EventsAs, refused_at_once, begun, events_as, Honest}
 use Rattle.layout.proofs.Checks.{admitted_result, answer_on}
@@ -47,47 +50,47 @@ use Rattle.layout.proofs.Items.{AllIn, items_honest, items_in}
 -- ---- numbers
 
 -- P holds of the fault, if there is one
-data Fault {A : Type 0} (P : A → Type 0) : Option A → Type 0 where
-  fine : Fault P none
-  faulty : {x : A} → P x → Fault P (some x)
+data Holds {A : Type 0} (P : A → Type 0) : Option A → Type 0 where
+  fine : Holds P None
+  faulty : {x : A} → P x → Holds P (Some x)
 
-or_fault : {A : Type 0} {P : A → Type 0} {a b : Option A} → Fault P a → Fault P b → Fault P (or_else a b)
+or_fault : {A : Type 0} {P : A → Type 0} {a b : Option A} → Holds P a → Holds P b → Holds P (or_else a b)
 unfolding or_else
 or_fault fine q = q
 or_fault (faulty h) q = faulty h
 
-first_fault_law : {A B : Type 0} {P : B → Type 0} (f : A → Option B) → ((a : A) → Fault P (f a)) → (l : List A) → Fault P (first_fault f l)
+first_fault_law : {A B : Type 0} {P : B → Type 0} (f : A → Option B) → ((a : A) → Holds P (f a)) → (l : List A) → Holds P (first_fault f l)
 first_fault_law f h [] = fine
 first_fault_law f h (a ∷ l) = or_fault (h a) (first_fault_law f h l)
 
 -- what the fonts say of a span has number 5 or more
-abbrev Late : Option (ℕ × ℕ) → Type 0
-Late = Fault (λ x. 4 < x.0)
+abbrev Late : Option Fault → Type 0
+Late = Holds (λ x. 4 < x.number)
 
 version_late : (o : OptNum) (f : Font) → Late (version_fault o f)
-version_late None f = fine
-version_late (Some v) f = go (eqb v f.version)
+version_late NoNum f = fine
+version_late (SomeNum v) f = go (eqb v f.version)
   where
-    go : (t : Bool) → Late (pick t none (some (11, 0)))
+    go : (t : Bool) → Late (pick t None (Some (fault 11 0)))
     go true = fine
-    go false = faulty {x = (11, 0)} (omega arith)
+    go false = faulty {x = fault 11 0} (omega arith)
 
 missing_late : (m : Measure) → Late (missing m)
 missing_late (Width w) = fine
-missing_late (Missing c) = faulty {x = (12, c)} (omega arith)
+missing_late (Missing c) = faulty {x = fault 12 c} (omega arith)
 
 module _ (msg : List ℕ) (e : Entry) where
-  font_late : (o : Option Font) → Late (font_fault_in msg e o)
-  font_late none = faulty {x = (10, e.state.font)} (omega arith)
+  font_late : (o : Maybe Font) → Late (font_fault_in msg e o)
+  font_late none = faulty {x = fault 10 e.state.font} (omega arith)
   font_late (some f) = version_late e.state.version f
 
   module _ (capitals : Bool) where
-    char_late : (x : Option (ℕ × ℕ)) (f : Font) → Late x → Late (char_fault_after msg e capitals x f)
-    char_late none f h = missing_late (measure_in msg e capitals f)
-    char_late (some x) f h = h
+    char_late : (x : Option Fault) (f : Font) → Late x → Late (char_fault_after msg e capitals x f)
+    char_late None f h = missing_late (measure_in msg e capitals f)
+    char_late (Some x) f h = h
 
-    fault_late : (o : Option Font) → Late (fault_in msg e capitals o)
-    fault_late none = faulty {x = (10, e.state.font)} (omega arith)
+    fault_late : (o : Maybe Font) → Late (fault_in msg e capitals o)
+    fault_late none = faulty {x = fault 10 e.state.font} (omega arith)
     fault_late (some f) = char_late (version_fault e.state.version f) f (version_late e.state.version f)
 
 -- of every span
@@ -104,42 +107,40 @@ board_late msg c fs =
     }
 
 -- a slice that is wrong has number 5 or more
-abbrev LateMark : Mark → Type 0
-LateMark Plain = Unit {0}
-LateMark Ends = Unit {0}
-LateMark (Timed p q) = Unit {0}
-LateMark (Wrong n) = 4 < n
+abbrev LateMark : Result Mark ℕ → Type 0
+LateMark (Ok m) = Unit {0}
+LateMark (Err n) = 4 < n
 
-tagged_late : (tags : ℕ) (v : Value) (m : Mark) → LateMark m → LateMark (tagged tags v m)
-tagged_late tags v m h = go (has_tag tags (tag_of v))
+tagged_late : (tags : ℕ) (v : Value) (m : Mark) → LateMark (tagged tags v m)
+tagged_late tags v m = go (has_tag tags (tag_of v))
   where
-    go : (t : Bool) → LateMark (pick t m (Wrong 5))
-    go true = h
+    go : (t : Bool) → LateMark (pick t (Ok m) (Err 5))
+    go true = tt
     go false = omega arith
 
 mark_late : (tags a n : ℕ) (x : Said) → Within a n x → LateMark (mark_item tags x)
-mark_late tags a n (Is (ColorBackground c)) h = tagged_late tags (ColorBackground c) Plain tt
-mark_late tags a n (Is (ColorForeground c)) h = tagged_late tags (ColorForeground c) Plain tt
-mark_late tags a n (Is (ColorRectangle r c)) h = tagged_late tags (ColorRectangle r c) Plain tt
-mark_late tags a n (Is (Field k w)) h = tagged_late tags (Field k w) Plain tt
-mark_late tags a n (Is (Flash o p q)) h = tagged_late tags (Flash o p q) Plain tt
-mark_late tags a n (Is FlashEnd) h = tagged_late tags FlashEnd Plain tt
-mark_late tags a n (Is (SetFont f)) h = tagged_late tags (SetFont f) Plain tt
-mark_late tags a n (Is (Graphic k p)) h = tagged_late tags (Graphic k p) Plain tt
-mark_late tags a n (Is (HexadecimalCharacter c)) h = tagged_late tags (HexadecimalCharacter c) Plain tt
-mark_late tags a n (Is (JustificationLine j)) h = tagged_late tags (JustificationLine j) Plain tt
-mark_late tags a n (Is (JustificationPage j)) h = tagged_late tags (JustificationPage j) Plain tt
-mark_late tags a n (Is (ManufacturerSpecific m p)) h = tagged_late tags (ManufacturerSpecific m p) Plain tt
-mark_late tags a n (Is (ManufacturerSpecificEnd m p)) h = tagged_late tags (ManufacturerSpecificEnd m p) Plain tt
-mark_late tags a n (Is (MovingText m d t)) h = tagged_late tags (MovingText m d t) Plain tt
-mark_late tags a n (Is (NewLine l)) h = tagged_late tags (NewLine l) Plain tt
-mark_late tags a n (Is NewPage) h = tagged_late tags NewPage Ends tt
-mark_late tags a n (Is (PageBackground c)) h = tagged_late tags (PageBackground c) Plain tt
-mark_late tags a n (Is (PageTime p q)) h = tagged_late tags (PageTime p q) (Timed p q) tt
-mark_late tags a n (Is (SpacingCharacter c)) h = tagged_late tags (SpacingCharacter c) Plain tt
-mark_late tags a n (Is SpacingCharacterEnd) h = tagged_late tags SpacingCharacterEnd Plain tt
+mark_late tags a n (Is (ColorBackground c)) h = tagged_late tags (ColorBackground c) Plain
+mark_late tags a n (Is (ColorForeground c)) h = tagged_late tags (ColorForeground c) Plain
+mark_late tags a n (Is (ColorRectangle r c)) h = tagged_late tags (ColorRectangle r c) Plain
+mark_late tags a n (Is (Field k w)) h = tagged_late tags (Field k w) Plain
+mark_late tags a n (Is (Flash o p q)) h = tagged_late tags (Flash o p q) Plain
+mark_late tags a n (Is FlashEnd) h = tagged_late tags FlashEnd Plain
+mark_late tags a n (Is (SetFont f)) h = tagged_late tags (SetFont f) Plain
+mark_late tags a n (Is (Graphic k p)) h = tagged_late tags (Graphic k p) Plain
+mark_late tags a n (Is (HexadecimalCharacter c)) h = tagged_late tags (HexadecimalCharacter c) Plain
+mark_late tags a n (Is (JustificationLine j)) h = tagged_late tags (JustificationLine j) Plain
+mark_late tags a n (Is (JustificationPage j)) h = tagged_late tags (JustificationPage j) Plain
+mark_late tags a n (Is (ManufacturerSpecific m p)) h = tagged_late tags (ManufacturerSpecific m p) Plain
+mark_late tags a n (Is (ManufacturerSpecificEnd m p)) h = tagged_late tags (ManufacturerSpecificEnd m p) Plain
+mark_late tags a n (Is (MovingText m d t)) h = tagged_late tags (MovingText m d t) Plain
+mark_late tags a n (Is (NewLine l)) h = tagged_late tags (NewLine l) Plain
+mark_late tags a n (Is NewPage) h = tagged_late tags NewPage Ends
+mark_late tags a n (Is (PageBackground c)) h = tagged_late tags (PageBackground c) Plain
+mark_late tags a n (Is (PageTime p q)) h = tagged_late tags (PageTime p q) (Timed p q)
+mark_late tags a n (Is (SpacingCharacter c)) h = tagged_late tags (SpacingCharacter c) Plain
+mark_late tags a n (Is SpacingCharacterEnd) h = tagged_late tags SpacingCharacterEnd Plain
 mark_late tags a n (Is (Text p)) h = tt
-mark_late tags a n (Is (TextRectangle r)) h = tagged_late tags (TextRectangle r) Plain tt
+mark_late tags a n (Is (TextRectangle r)) h = tagged_late tags (TextRectangle r) Plain
 mark_late tags a n (Fails k) h = h
 
 -- top: the message's length
@@ -156,22 +157,22 @@ module _ (top : ℕ) where
 
   -- ---- a pass
 
-  unless_fault : (t : Bool) (r : Refusal) → Inside r → Fault Inside (unless t r)
+  unless_fault : (t : Bool) (r : Refusal) → Inside r → Holds Inside (unless t r)
   unfolding unless
   unless_fault true r h = fine
   unless_fault false r h = faulty h
 
-  back_fault_law : (p : Option Entry) (es : List Entry) → Spans es → Fault Inside (back_fault p es)
+  back_fault_law : (p : Option Entry) (es : List Entry) → Spans es → Holds Inside (back_fault p es)
   back_fault_law p [] h = fine
-  back_fault_law none (e ∷ es) h = back_fault_law (some e) es h.1
-  back_fault_law (some p) (e ∷ es) h = or_fault (unless_fault (not (goes_back p e)) _ (record { late = omega arith; place = h.0 })) (back_fault_law (some e) es h.1)
+  back_fault_law None (e ∷ es) h = back_fault_law (Some e) es h.1
+  back_fault_law (Some p) (e ∷ es) h = or_fault (unless_fault (not (goes_back p e)) _ (record { late = omega arith; place = h.0 })) (back_fault_law (Some e) es h.1)
 
   module _ (s : Board) (b : LateFaults s) (r : Rect) (all : List Entry) where
-    at_fault : (e : Entry) (x : Option (ℕ × ℕ)) → e.start + e.len ≤ top → Late x → Fault Inside (fault_at s r all e x)
-    at_fault e none h l = fine
-    at_fault e (some x) h (faulty l) = faulty (record { late = l; place = h })
+    at_fault : (e : Entry) (x : Option Fault) → e.start + e.len ≤ top → Late x → Holds Inside (fault_at s r all e x)
+    at_fault e None h l = fine
+    at_fault e (Some x) h (faulty l) = faulty (record { late = l; place = h })
 
-    span_fault_law : (e : Entry) → e.start + e.len ≤ top → Fault Inside (span_fault s r all e)
+    span_fault_law : (e : Entry) → e.start + e.len ≤ top → Holds Inside (span_fault s r all e)
     unfolding span_fault
     span_fault_law e h =
         let of-fonts : Late (first_fault s.meter.fault (group s r all e)) = first_fault_law s.meter.fault b.fault (group s r all e) in
@@ -180,26 +181,26 @@ module _ (top : ℕ) where
         let low : Inside (refusal 14 e.start e.len 0) = record { late = omega arith; place = h } in
         search (or_fault, at_fault, unless_fault) depth 12
 
-    spans_fault : (es : List Entry) → Spans es → Fault Inside (first_fault (span_fault s r all) es)
+    spans_fault : (es : List Entry) → Spans es → Holds Inside (first_fault (span_fault s r all) es)
     spans_fault [] h = fine
     spans_fault (e ∷ es) h = or_fault (span_fault_law e h.0) (spans_fault es h.1)
 
-  pass_fault_law : (s : Board) (b : LateFaults s) (n : ℕ) (r : Rect) (es : List Entry) → Spans es → Fault Inside (pass_stop s n r es)
+  pass_fault_law : (s : Board) (b : LateFaults s) (n : ℕ) (r : Rect) (es : List Entry) → Spans es → Holds Inside (pass_stop s n r es)
   unfolding pass_fault
   pass_fault_law s b n r es h =
-      or_fault (or_fault (back_fault_law none es h) (spans_fault s b r es es h))
+      or_fault (or_fault (back_fault_law None es h) (spans_fault s b r es es h))
       (unless_fault _ (refusal 15 0 0 0) (record { late = omega arith; place = omega arith }))
 
   -- ---- a page's scan
 
-  scan_by_law : (s : Config) (a b : ℕ) (it : Item) (m : Mark) (next : ℕ → ℕ → Scan) → LateMark m → it.start + it.len ≤ top
-      → ((p q : ℕ) → Fault Inside (next p q).fault) → Fault Inside (scan_by s a b it m next).fault
-  scan_by_law s a b it Plain next l h k = k a b
-  scan_by_law s a b it Ends next l h k = fine
-  scan_by_law s a b it (Timed p q) next l h k = k _ _
-  scan_by_law s a b it (Wrong n) next l h k = faulty (record { late = l; place = h })
+  scan_by_law : (s : Config) (a b : ℕ) (it : Item) (m : Result Mark ℕ) (next : ℕ → ℕ → Scan) → LateMark m → it.start + it.len ≤ top
+      → ((p q : ℕ) → Holds Inside (next p q).fault) → Holds Inside (scan_by s a b it m next).fault
+  scan_by_law s a b it (Ok Plain) next l h k = k a b
+  scan_by_law s a b it (Ok Ends) next l h k = fine
+  scan_by_law s a b it (Ok (Timed p q)) next l h k = k _ _
+  scan_by_law s a b it (Err n) next l h k = faulty (record { late = l; place = h })
 
-  scan_fault : (s : Config) (a b : ℕ) (its : List Item) → Honest its → AllIn top its → Fault Inside (scan s a b its).fault
+  scan_fault : (s : Config) (a b : ℕ) (its : List Item) → Honest its → AllIn top its → Holds Inside (scan s a b its).fault
   scan_fault s a b [] o h = fine
   scan_fault s a b (it ∷ its) o h =
       scan_by_law s a b it (mark_item s.tags it.says) (λ p q. scan s p q its) (mark_late s.tags it.start it.len it.says o.0) h.0
@@ -217,10 +218,10 @@ module _ (top : ℕ) where
   snoc_spans [] e h p = (p, tt)
   snoc_spans (x ∷ es) e h p = (h.0, snoc_spans es e h.1 p)
 
-  scan_stop : (s : Config) (its : List Item) (a b : ℕ) (r : Refusal) → Honest its → AllIn top its → (scan s a b its).fault ≡ some r → Inside r
+  scan_stop : (s : Config) (its : List Item) (a b : ℕ) (r : Refusal) → Honest its → AllIn top its → (scan s a b its).fault ≡ Some r → Inside r
   scan_stop s its a b r o h e = look (rw e at (scan_fault s a b its o h))
     where
-      look : Fault Inside (some r) → Inside r
+      look : Holds Inside (Some r) → Inside r
       look (faulty i) = i
 
   -- what is read lies within the message
@@ -246,7 +247,7 @@ module _ (top : ℕ) where
   Pages (off d ∷ l) = Pages l
   Pages (refused r ∷ l) = Inside r × Pages l
 
-  pages_stop : {f : Option Refusal} (l : List Page) → Fault Inside f → Pages l → Pages (stop_at f l)
+  pages_stop : {f : Option Refusal} (l : List Page) → Holds Inside f → Pages l → Pages (stop_at f l)
   pages_stop l fine h = h
   pages_stop l (faulty i) h = (i, tt)
 

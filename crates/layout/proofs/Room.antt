@@ -2,9 +2,10 @@
 use Prim.Native.Nat.{ℕ, zero, suc, ◌+◌, ◌≤◌}
 use native.Mathlib.Omega.{arith}
 use mathlib.Core.Path.{◌≡◌, refl, ap}
-use mathlib.Core.Option.{Option, none, some}
+use Rattle.std.specs.Prelude.{Option, Some, None}
 use mathlib.Core.List.{List, [], ◌∷◌, ◌++◌, map}
 use lib.ListN.{length, drop, length-append, length-drop}
+use Rattle.std.proofs.lemmas.List.{length-map}
 use Rattle.admit.specs.Admission.{admission}
 use Rattle.admit.proofs.Laws.{admits}
 use Rattle.refusal.specs.declared.Refusal.{Refusal}
@@ -17,7 +18,8 @@ use Rattle.records.specs.declared.Config.{Config}
 use Rattle.layout.specs.Types.{Item, items, Board}
 use Rattle.layout.specs.Fonts.{board_of}
 use Rattle.layout.specs.Placing.{pass_records, record_of}
-use Rattle.layout.specs.Read.{Scan, Event, pass, close, stop, opening, events}
+use Rattle.layout.specs.declared.Scan.{Scan}
+use Rattle.layout.specs.Read.{Event, pass, close, stop, opening, events}
 use Rattle.layout.specs.Listing.{Page, on, off, refused, stop_at, offs, pass_stop, walk, pages, Result, numbered, result_on, result, listing, after}
 use Rattle.layout.proofs.Cover.{ReadAs, ends, refuses, goes, emits, cuts, turns, fails, EventsAs, refused_at_once, begun, events_as, entries}
 use Rattle.layout.proofs.Checks.{any_result}
@@ -53,16 +55,12 @@ small_offs top zero l h = h
 small_offs top (suc n) l h = h
 
 small_stop : (top : ℕ) (f : Option Refusal) (l : List Page) → Small top l → Small top (stop_at f l)
-small_stop top none l h = h
-small_stop top (some r) l h = tt
-
-pub map_length : {A B : Type 0} (f : A → B) (l : List A) → length (map f l) ≡ length l
-map_length f [] = refl
-map_length f (x ∷ l) = rw (map_length f l)
+small_stop top None l h = h
+small_stop top (Some r) l h = tt
 
 pass_length : (s : Board) (r : Rect) (es : List Entry) → length (pass_records s r es) ≡ length es
 unfolding pass_records
-pass_length s r es = map_length (record_of s r es) es
+pass_length s r es = length-map es (record_of s r es)
 
 walk_small : (top : ℕ) (s : Board) (evs : List Event) (a b : ℕ) (rs : List Span) (n : ℕ) → length rs + length (entries evs) ≤ top
     → Small top (walk s evs a b rs n)
@@ -124,7 +122,7 @@ Quiet r = (x : Refusal) → r.answer ≡ Refused x → r.written ≡ []
 
 numbered_quiet : (c : ℕ) (l : List Page) (n : ℕ) → Quiet (numbered c l n)
 numbered_quiet c [] n x e = refl
-numbered_quiet c (on d rs ∷ l) zero x e = absurd (let z : ◌≡◌ {A = ℕ} 0 1 = cc in omega arith)
+numbered_quiet c (on d rs ∷ l) zero x e = absurd cc
 numbered_quiet c (off d ∷ l) zero x e = refl
 numbered_quiet c (refused r ∷ l) zero x e = refl
 numbered_quiet c (on d rs ∷ l) (suc n) x e = numbered_quiet (suc c) l n x e
@@ -145,16 +143,16 @@ abbrev pub Counts : Result → Type 0
 Counts r = (d k : ℕ) → r.answer ≡ On d k → k ≡ length r.written
 
 pub numbered_counts : (c : ℕ) (l : List Page) (n : ℕ) → Counts (numbered c l n)
-numbered_counts c [] n d k e = absurd (let z : ◌≡◌ {A = ℕ} 0 1 = cc in omega arith)
+numbered_counts c [] n d k e = absurd cc
 numbered_counts c (on a rs ∷ l) zero d k e = cc
-numbered_counts c (off a ∷ l) zero d k e = absurd (let z : ◌≡◌ {A = ℕ} 0 1 = cc in omega arith)
-numbered_counts c (refused r ∷ l) zero d k e = absurd (let z : ◌≡◌ {A = ℕ} 0 1 = cc in omega arith)
+numbered_counts c (off a ∷ l) zero d k e = absurd cc
+numbered_counts c (refused r ∷ l) zero d k e = absurd cc
 numbered_counts c (on a rs ∷ l) (suc n) d k e = numbered_counts (suc c) l n d k e
 numbered_counts c (off a ∷ l) (suc n) d k e = numbered_counts (suc c) l n d k e
-numbered_counts c (refused r ∷ l) (suc n) d k e = absurd (let z : ◌≡◌ {A = ℕ} 0 1 = cc in omega arith)
+numbered_counts c (refused r ∷ l) (suc n) d k e = absurd cc
 
 pub fits : (file msg : List ℕ) (n : ℕ) (lent : List Span) (d k : ℕ) → listing file msg n lent ≡ On d k → k ≤ 1400
 unfolding listing result board_of
 fits file msg n lent d k =
-    any_result msg n (length lent) (λ r. r.answer ≡ On d k → k ≤ 1400) (λ x e. absurd (let z : ◌≡◌ {A = ℕ} 0 1 = cc in omega arith)) (admission file msg)
+    any_result msg n (length lent) (λ r. r.answer ≡ On d k → k ≤ 1400) (λ x e. absurd cc) (admission file msg)
     (λ c fs p q e. omega (arith, pages_small msg (board_of msg c fs) (admits p).small n, numbered_counts 0 (pages (board_of msg c fs) (items c msg)) n d k e))

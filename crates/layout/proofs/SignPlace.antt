@@ -24,7 +24,7 @@ found a n l e =
 
 from_in : (ns : List ℕ) (b : Before) (ps : List Piece) (n : ℕ) → fault_from ns b ps ≡ FailsAt n → In n (map offset ps)
 unfolding fault_from
-from_in ns b [] n e = absurd (let z : ◌≡◌ {A = ℕ} 0 1 = cc in omega arith)
+from_in ns b [] n e = absurd cc
 from_in ns b (CutShort a ∷ ps) n e = found a n (map offset ps) e
 from_in ns b (Record a kind body ∷ ps) n e =
     go (is_font ns kind body) (is_character b kind body) (from_in (get_or body 0 0 ∷ ns) (After (get_or body 1 0) []) ps n)
@@ -73,7 +73,7 @@ cut_below n a (suc k) (b ∷ l) i = omega (arith, cut_below n (suc a) k l i)
 -- ---- refusal 1
 
 refused_fault : (v : Verdict) (c : Config) (fs : List Font) (n : ℕ) → answer v c fs ≡ RefusedAt n → v ≡ FailsAt n
-refused_fault Fine c fs n e = absurd (let z : ◌≡◌ {A = ℕ} 0 1 = cc in omega arith)
+refused_fault Fine c fs n e = absurd cc
 refused_fault (FailsAt a) c fs n e = cc
 
 fault_in_law : (b : ℕ) (l : List ℕ) (n : ℕ) → fault (b ∷ l) ≡ FailsAt n → In n (offsets (b ∷ l))

@@ -1,6 +1,5 @@
 -- Document 01, "The calls", Listing: the answers of a message, and the answer and the lent slice of one call.
-use Rattle.std.specs.Prelude.{ℕ, zero, suc, List, [], ◌∷◌, ◌++◌, ltb, length, drop}
-use Rattle.std.proofs.Math.Option.{Option, none, some}
+use Rattle.std.specs.Prelude.{ℕ, zero, suc, List, [], ◌∷◌, ◌++◌, ltb, length, drop, Option, Some, None}
 use Rattle.base.specs.Pick.{pick}
 use Rattle.refusal.specs.declared.Refusal.{Refusal}
 use Rattle.admit.specs.Admission.{Admission, denied, admitted, admission}
@@ -23,8 +22,8 @@ pub data Page : Type 0 where
   refused : Refusal → Page
 
 abbrev pub stop_at : Option Refusal → List Page → List Page
-stop_at none l = l
-stop_at (some r) l = refused r ∷ []
+stop_at None l = l
+stop_at (Some r) l = refused r ∷ []
 
 -- "An off answer follows an on page when the off time is above 0"
 abbrev pub offs : ℕ → List Page → List Page

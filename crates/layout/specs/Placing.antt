@@ -1,13 +1,13 @@
 -- Document 01, "Placing": where the spans of one pass stand, and which of refusals 9 to 14 they meet.
-use Rattle.std.specs.Prelude.{ℕ, zero, suc, ◌+◌, ◌-◌, ◌*◌, ◌/◌, max, Bool, true, false, not, ◌&&◌, ◌||◌, List, [], ◌∷◌, map, leb, ltb, eqb}
-use Rattle.std.proofs.Math.Option.{Option, none, some}
+use Rattle.std.specs.Prelude.{ℕ, zero, suc, ◌+◌, ◌-◌, ◌*◌, ◌/◌, max, Bool, true, false, not, ◌&&◌, ◌||◌, List, [], ◌∷◌, map, leb, ltb, eqb, Option, Some, None}
 use Rattle.base.specs.Pick.{pick}
 use Rattle.refusal.specs.declared.Refusal.{Refusal}
 use Rattle.layout.specs.declared.Span.{Span}
 use Rattle.value.specs.declared.OptNum.{OptNum}
-use Rattle.value.specs.declared.OptNum.TheVariants.{Some, None}
+use Rattle.value.specs.declared.OptNum.TheVariants.{Some as SomeNum, None as NoNum}
 use Rattle.layout.specs.declared.Rect.{Rect}
 use Rattle.layout.specs.declared.Entry.{Entry}
+use Rattle.layout.specs.declared.Fault.{Fault}
 use Rattle.layout.specs.Types.{unwrap_or, Meter, Board}
 use Rattle.refusal.specs.Refusals.{refusal}
 use Rattle.layout.specs.Read.{unit}
@@ -23,17 +23,17 @@ abbrev pub trunc : ℕ → ℕ → ℕ
 trunc u x = x / unit u * unit u
 
 -- the first of two that is there
-unfoldable pub or_else {ℓ} : {A : Type ℓ} → Option A → Option A → Option A
-or_else none b = b
-or_else (some a) b = some a
+unfoldable pub or_else : {A : Type 0} → Option A → Option A → Option A
+or_else None b = b
+or_else (Some a) b = Some a
 
-unfoldable pub unless {ℓ} : {A : Type ℓ} → Bool → A → Option A
-unless true a = none
-unless false a = some a
+unfoldable pub unless : {A : Type 0} → Bool → A → Option A
+unless true a = None
+unless false a = Some a
 
 -- the first fault of a list
-abbrev pub first_fault {ℓ κ} : {A : Type ℓ} {B : Type κ} → (A → Option B) → List A → Option B
-first_fault f [] = none
+abbrev pub first_fault : {A B : Type 0} → (A → Option B) → List A → Option B
+first_fault f [] = None
 first_fault f (e ∷ es) = or_else (f e) (first_fault f es)
 
 abbrev pub keep {ℓ} : {A : Type ℓ} → Bool → A → List A → List A
@@ -61,17 +61,17 @@ unfoldable pub due : Meter → Entry → Entry → ℕ
 due m p e = unwrap_or e.state.char_spacing (half_up (m.spacing p + m.spacing e))
 
 abbrev pub gap : Meter → Option Entry → Entry → ℕ
-gap m none e = 0
-gap m (some p) e = due m p e
+gap m None e = 0
+gap m (Some p) e = due m p e
 
 -- `offset_horiz`: of a group, with the span before it, what stands before span number n, and what from there on
 abbrev pub sum_before : Meter → ℕ → Option Entry → List Entry → ℕ
 sum_before m n p [] = 0
-sum_before m n p (e ∷ es) = pick (leb e.state.span n) (gap m p e) 0 + (pick (ltb e.state.span n) (m.width e) 0 + sum_before m n (some e) es)
+sum_before m n p (e ∷ es) = pick (leb e.state.span n) (gap m p e) 0 + (pick (ltb e.state.span n) (m.width e) 0 + sum_before m n (Some e) es)
 
 abbrev pub sum_after : Meter → ℕ → Option Entry → List Entry → ℕ
 sum_after m n p [] = 0
-sum_after m n p (e ∷ es) = pick (leb e.state.span n) 0 (gap m p e) + (pick (ltb e.state.span n) 0 (m.width e) + sum_after m n (some e) es)
+sum_after m n p (e ∷ es) = pick (leb e.state.span n) 0 (gap m p e) + (pick (ltb e.state.span n) 0 (m.width e) + sum_after m n (Some e) es)
 
 -- `span_x`: 2 left, 3 centre, 4 right
 abbrev pub place_x : ℕ → ℕ → Rect → ℕ → ℕ → ℕ
@@ -90,8 +90,8 @@ pub record Line : Type 0 where
 
 -- the first of two options that is there
 abbrev pub first_of : OptNum → OptNum → OptNum
-first_of None b = b
-first_of (Some n) b = Some n
+first_of NoNum b = b
+first_of (SomeNum n) b = SomeNum n
 
 abbrev pub combine : Line → Line → Line
 combine a b =
@@ -121,23 +121,23 @@ line_gap zero p l = unwrap_or l.line_spacing (half_up (p.font_spacing + l.font_s
 line_gap (suc c) p l = 0
 
 abbrev pub gap_above : ℕ → Option Line → Line → ℕ
-gap_above ch none l = 0
-gap_above ch (some p) l = line_gap ch p l
+gap_above ch None l = 0
+gap_above ch (Some p) l = line_gap ch p l
 
 -- `offset_vert`: heights and spacings of all lines, of those up to number n, and of those past it; p is the line above
 abbrev pub total : ℕ → Option Line → List Line → ℕ
 total ch p [] = 0
-total ch p (l ∷ ls) = gap_above ch p l + (l.height + total ch (some l) ls)
+total ch p (l ∷ ls) = gap_above ch p l + (l.height + total ch (Some l) ls)
 
 abbrev pub above : ℕ → ℕ → Option Line → List Line → ℕ
 above ch n p [] = 0
 above ch zero p (l ∷ ls) = gap_above ch p l + l.height
-above ch (suc n) p (l ∷ ls) = gap_above ch p l + (l.height + above ch n (some l) ls)
+above ch (suc n) p (l ∷ ls) = gap_above ch p l + (l.height + above ch n (Some l) ls)
 
 abbrev pub below : ℕ → ℕ → Option Line → List Line → ℕ
 below ch n p [] = 0
-below ch zero p (l ∷ ls) = total ch (some l) ls
-below ch (suc n) p (l ∷ ls) = below ch n (some l) ls
+below ch zero p (l ∷ ls) = total ch (Some l) ls
+below ch (suc n) p (l ∷ ls) = below ch n (Some l) ls
 
 -- `baseline`: 2 top, 3 middle, 4 bottom
 abbrev pub baseline : ℕ → ℕ → Rect → ℕ → ℕ → ℕ
@@ -156,19 +156,19 @@ module _ (s : Board) (r : Rect) (es : List Entry) where
   page e = select (same_page e) es
 
   unfoldable pub before_of : Entry → ℕ
-  before_of e = sum_before s.meter e.state.span none (group e)
+  before_of e = sum_before s.meter e.state.span None (group e)
 
   unfoldable pub after_of : Entry → ℕ
-  after_of e = sum_after s.meter e.state.span none (group e)
+  after_of e = sum_after s.meter e.state.span None (group e)
 
   unfoldable pub lines_of : Entry → List Line
   lines_of e = lines s.meter [] (page e)
 
   unfoldable pub above_of : Entry → ℕ
-  above_of e = above s.config.char_height e.state.line none (lines_of e)
+  above_of e = above s.config.char_height e.state.line None (lines_of e)
 
   unfoldable pub below_of : Entry → ℕ
-  below_of e = below s.config.char_height e.state.line none (lines_of e)
+  below_of e = below s.config.char_height e.state.line None (lines_of e)
 
   unfoldable pub x_of : Entry → ℕ
   x_of e = place_x e.state.just_line s.config.char_width r (before_of e) (after_of e)
@@ -202,9 +202,9 @@ module _ (s : Board) (r : Rect) (es : List Entry) where
   abbrev pub refused_at : Entry → ℕ → ℕ → Refusal
   refused_at e n d = refusal n e.start e.len d
 
-  abbrev pub fault_at : Entry → Option (ℕ × ℕ) → Option Refusal
-  fault_at e none = none
-  fault_at e (some f) = some (refused_at e f.0 f.1)
+  abbrev pub fault_at : Entry → Option Fault → Option Refusal
+  fault_at e None = None
+  fault_at e (Some f) = Some (refused_at e f.number f.detail)
 
   -- "Then span by span, x before y, in the order in which `offset_horiz` and `offset_vert` meet 10 to 14": the faults of the group's measures; 13,
   -- "text exceeds the rectangle's width"; the fonts of the page's lines; 13, its height; 14, "the rounded baseline is less than the font height"
@@ -223,13 +223,13 @@ goes_back p e =
     || (eqb e.state.just_page p.state.just_page && (eqb e.state.line p.state.line && ltb e.state.just_line p.state.just_line))
 
 abbrev pub back_fault : Option Entry → List Entry → Option Refusal
-back_fault p [] = none
-back_fault none (e ∷ es) = back_fault (some e) es
-back_fault (some p) (e ∷ es) = or_else (unless (not (goes_back p e)) (refusal 9 e.start e.len 0)) (back_fault (some e) es)
+back_fault p [] = None
+back_fault None (e ∷ es) = back_fault (Some e) es
+back_fault (Some p) (e ∷ es) = or_else (unless (not (goes_back p e)) (refusal 9 e.start e.len 0)) (back_fault (Some e) es)
 
 -- 9, "place of that span"; then span by span
 unfoldable pub pass_fault : Board → Rect → List Entry → Option Refusal
-pass_fault s r es = or_else (back_fault none es) (first_fault (span_fault s r es) es)
+pass_fault s r es = or_else (back_fault None es) (first_fault (span_fault s r es) es)
 
 unfoldable pub pass_records : Board → Rect → List Entry → List Span
 pass_records s r es = map (record_of s r es) es

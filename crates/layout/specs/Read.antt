@@ -1,6 +1,5 @@
 -- Document 01, "Page states" and "Placing": reading a message's items into passes of spans. Nothing is placed here.
-use Rattle.std.specs.Prelude.{ℕ, zero, suc, ◌+◌, ◌-◌, ◌%◌, max, Bool, true, false, ◌&&◌, List, [], ◌∷◌, ◌++◌, leb, ltb, eqb}
-use Rattle.std.proofs.Math.Option.{Option, none, some}
+use Rattle.std.specs.Prelude.{ℕ, zero, suc, ◌+◌, ◌-◌, ◌%◌, max, Bool, true, false, ◌&&◌, List, [], ◌∷◌, ◌++◌, leb, ltb, eqb, Option, Some, None, Result, Ok, Err}
 use Rattle.base.specs.Pick.{pick}
 use Rattle.value.specs.declared.OptFont.{OptFont}
 use Rattle.value.specs.declared.OptFont.TheVariants.{Some as SomeFont, None as NoFont}
@@ -13,15 +12,16 @@ use Rattle.reading.specs.declared.Said.{Said}
 use Rattle.reading.specs.declared.Said.TheVariants.{Is, Fails}
 use Rattle.refusal.specs.declared.Refusal.{Refusal}
 use Rattle.value.specs.declared.OptNum.{OptNum}
-use Rattle.value.specs.declared.OptNum.TheVariants.{Some, None}
+use Rattle.value.specs.declared.OptNum.TheVariants.{Some as SomeNum, None as NoNum}
 use Rattle.records.specs.declared.Config.{Config}
 use Rattle.layout.specs.declared.Rect.{Rect}
 use Rattle.layout.specs.declared.RenderState.{RenderState}
 use Rattle.layout.specs.declared.Entry.{Entry}
 use Rattle.layout.specs.declared.Mark.{Mark}
-use Rattle.layout.specs.declared.Mark.TheVariants.{Plain, Ends, Timed, Wrong}
+use Rattle.layout.specs.declared.Mark.TheVariants.{Plain, Ends, Timed}
+use Rattle.layout.specs.declared.Scan.{Scan}
 use Rattle.layout.specs.declared.Step.{Step}
-use Rattle.layout.specs.declared.Step.TheVariants.{Refuse, Go, Emit, Cut, Turn}
+use Rattle.layout.specs.declared.Step.TheVariants.{Go, Emit, Cut, Turn}
 use Rattle.layout.specs.Types.{Item, place_of, unwrap_or}
 use Rattle.refusal.specs.Refusals.{refusal}
 
@@ -32,11 +32,11 @@ abbrev pub refusal_at : Place → ℕ → Refusal
 refusal_at at n = refusal n at.start at.len 0
 
 -- a tag needs its name's bit in the sign's tags: 5, "a tag this sign doesn't support; field 0 counts as unsupported", having no bit
-abbrev pub tagged : ℕ → Value → Mark → Mark
-tagged tags v m = pick (has_tag tags (tag_of v)) m (Wrong 5)
+abbrev pub tagged : ℕ → Value → Mark → Result Mark ℕ
+tagged tags v m = pick (has_tag tags (tag_of v)) (Ok m) (Err 5)
 
 -- of each value; a text has no tag and needs no bit
-abbrev pub mark_of : ℕ → Value → Mark
+abbrev pub mark_of : ℕ → Value → Result Mark ℕ
 mark_of tags (ColorBackground c) = tagged tags (ColorBackground c) Plain
 mark_of tags (ColorForeground c) = tagged tags (ColorForeground c) Plain
 mark_of tags (ColorRectangle r c) = tagged tags (ColorRectangle r c) Plain
@@ -57,29 +57,24 @@ mark_of tags (PageBackground c) = tagged tags (PageBackground c) Plain
 mark_of tags (PageTime on off) = tagged tags (PageTime on off) (Timed on off)
 mark_of tags (SpacingCharacter s) = tagged tags (SpacingCharacter s) Plain
 mark_of tags SpacingCharacterEnd = tagged tags SpacingCharacterEnd Plain
-mark_of tags (Text p) = Plain
+mark_of tags (Text p) = Ok Plain
 mark_of tags (TextRectangle r) = tagged tags (TextRectangle r) Plain
 
 -- a slice that fails has its number: 5, "no known tag"; 6, "a bad parameter"; 7, a code point outside 1 to 255
-abbrev pub mark_item : ℕ → Said → Mark
+abbrev pub mark_item : ℕ → Said → Result Mark ℕ
 mark_item tags (Is v) = mark_of tags v
-mark_item tags (Fails n) = Wrong n
+mark_item tags (Fails n) = Err n
 
--- a page's times, and its first failing slice, "by position up to and including [np], before any placing"
-pub record Scan : Type 0 where
-  pub on : ℕ
-  pub off : ℕ
-  pub fault : Option Refusal
-
+-- a page's times, and its first failing slice, "by position up to and including [np], before any placing".
 -- "Page times are the last [pt] before [np], a missing part taking the sign's default; without a [pt] they carry over from the page before"
-abbrev pub scan_by : Config → ℕ → ℕ → Item → Mark → (ℕ → ℕ → Scan) → Scan
-scan_by s a b it Plain next = next a b
-scan_by s a b it Ends next = record { on = a; off = b; fault = none }
-scan_by s a b it (Timed p q) next = next (unwrap_or p s.on_time) (unwrap_or q s.off_time)
-scan_by s a b it (Wrong n) next = record { on = a; off = b; fault = some (refusal_at (place_of it) n) }
+abbrev pub scan_by : Config → ℕ → ℕ → Item → Result Mark ℕ → (ℕ → ℕ → Scan) → Scan
+scan_by s a b it (Ok Plain) next = next a b
+scan_by s a b it (Ok Ends) next = record { on = a; off = b; fault = None }
+scan_by s a b it (Ok (Timed p q)) next = next (unwrap_or p s.on_time) (unwrap_or q s.off_time)
+scan_by s a b it (Err n) next = record { on = a; off = b; fault = Some (refusal_at (place_of it) n) }
 
 abbrev pub scan : Config → ℕ → ℕ → List Item → Scan
-scan s a b [] = record { on = a; off = b; fault = none }
+scan s a b [] = record { on = a; off = b; fault = None }
 scan s a b (it ∷ its) = scan_by s a b it (mark_item s.tags it.says) (λ p q. scan s p q its)
 
 -- ---- one item of a pass
@@ -193,11 +188,11 @@ with_rect st r =
 -- [fo] without a number: the sign's font, and no version id
 abbrev pub font_step : Config → RenderState → OptFont → RenderState
 font_step s st (SomeFont n v) = with_font st n v
-font_step s st NoFont = with_font st s.font None
+font_step s st NoFont = with_font st s.font NoNum
 
 -- 8: "The 256th .. span since its number restarted"; "a text or [hc] ends the blank"
-abbrev pub span_step : Place → RenderState → Entry → Step
-span_step at st e = pick (ltb st.span 255) (Emit e (with_span st (suc st.span)) false) (Refuse (refusal_at at 8))
+abbrev pub span_step : Place → RenderState → Entry → Result Step Refusal
+span_step at st e = pick (ltb st.span 255) (Ok (Emit e (with_span st (suc st.span)) false)) (Err (refusal_at at 8))
 
 -- "a zero size reaching to the sign's edge"
 abbrev pub extent : ℕ → ℕ → ℕ → ℕ
@@ -221,73 +216,73 @@ rect_fits s r = fits r.left r.width s.width s.char_width && fits r.top r.height 
 
 -- the justification in force after [jl] or [jp]: none is the sign's; 2 to 4 are taken
 abbrev pub justified : OptNum → ℕ → OptNum
-justified None d = Some d
-justified (Some n) d = pick (leb 2 n) (pick (leb n 4) (Some n) None) None
+justified NoNum d = SomeNum d
+justified (SomeNum n) d = pick (leb 2 n) (pick (leb n 4) (SomeNum n) NoNum) NoNum
 
-abbrev pub go_if : Place → OptNum → (ℕ → RenderState) → Bool → Step
-go_if at None f blank = Refuse (refusal_at at 6)
-go_if at (Some n) f blank = Go (f n) blank
+abbrev pub go_if : Place → OptNum → (ℕ → RenderState) → Bool → Result Step Refusal
+go_if at NoNum f blank = Err (refusal_at at 6)
+go_if at (SomeNum n) f blank = Ok (Go (f n) blank)
 
 -- "[nl] on a still blank line lists an empty span": kind 2, which "starts at its [nl], length 0"
-abbrev pub line_step : Place → RenderState → OptNum → Bool → Step
-line_step at st ls true = Emit (entry_of 2 at.start 0 0 st) (with_line st ls) true
-line_step at st ls false = Go (with_line st ls) true
+abbrev pub line_step : Place → RenderState → OptNum → Bool → Result Step Refusal
+line_step at st ls true = Ok (Emit (entry_of 2 at.start 0 0 st) (with_line st ls) true)
+line_step at st ls false = Ok (Go (with_line st ls) true)
 
 -- D800 to DFFF hexadecimal
 abbrev pub surrogate : ℕ → Bool
 surrogate c = leb 55296 c && leb c 57343
 
-abbrev pub hex_step : Place → RenderState → ℕ → Step
-hex_step at st c = pick (surrogate c) (Refuse (refusal_at at 6)) (span_step at st (entry_of 1 at.start at.len c st))
+abbrev pub hex_step : Place → RenderState → ℕ → Result Step Refusal
+hex_step at st c = pick (surrogate c) (Err (refusal_at at 6)) (span_step at st (entry_of 1 at.start at.len c st))
 
 -- both above 0
 abbrev pub above0 : ℕ → ℕ → Bool
 above0 a b = ltb 0 a && ltb 0 b
 
 -- 8: "The 256th line end .. since its number restarted"
-abbrev pub new_line_step : Config → RenderState → Bool → Place → OptNum → Step
+abbrev pub new_line_step : Config → RenderState → Bool → Place → OptNum → Result Step Refusal
 new_line_step s st blank at ls =
-    pick (above0 s.char_height (unwrap_or ls 0)) (Refuse (refusal_at at 6))
-    (pick (ltb st.line 255) (line_step at st ls blank) (Refuse (refusal_at at 8)))
+    pick (above0 s.char_height (unwrap_or ls 0)) (Err (refusal_at at 6))
+    (pick (ltb st.line 255) (line_step at st ls blank) (Err (refusal_at at 8)))
 
-abbrev pub spacing_step : Config → RenderState → Bool → Place → ℕ → Step
-spacing_step s st blank at n = pick (above0 s.char_width n) (Refuse (refusal_at at 6)) (Go (with_char_spacing st (Some n)) blank)
+abbrev pub spacing_step : Config → RenderState → Bool → Place → ℕ → Result Step Refusal
+spacing_step s st blank at n = pick (above0 s.char_width n) (Err (refusal_at at 6)) (Ok (Go (with_char_spacing st (SomeNum n)) blank))
 
-abbrev pub rect_step : Config → RenderState → Place → Rectangle → Step
-rect_step s st at r = pick (rect_fits s (rect_of s r)) (Cut (with_rect st (rect_of s r))) (Refuse (refusal_at at 6))
+abbrev pub rect_step : Config → RenderState → Place → Rectangle → Result Step Refusal
+rect_step s st at r = pick (rect_fits s (rect_of s r)) (Ok (Cut (with_rect st (rect_of s r)))) (Err (refusal_at at 6))
 
 -- `render_text_rectangle`: 6 for "[jl1], [jl5], [jp1], [nl] above 0 where character height is above 0, [sc] above 0 where character width is,
 -- [hc] D800 to DFFF hexadecimal, or a [tr] not inside the sign or off its character grid"; 8 for the 256th line end or span
-abbrev pub value_step : Config → RenderState → Bool → Place → Value → Step
-value_step s st blank at (ColorBackground c) = Go st blank
-value_step s st blank at (ColorForeground c) = Go st blank
-value_step s st blank at (ColorRectangle r c) = Go st blank
-value_step s st blank at (Field n w) = Go st blank
-value_step s st blank at (Flash o a b) = Go st blank
-value_step s st blank at FlashEnd = Go st blank
-value_step s st blank at (Font f) = Go (font_step s st f) blank
-value_step s st blank at (Graphic n p) = Go st blank
+abbrev pub value_step : Config → RenderState → Bool → Place → Value → Result Step Refusal
+value_step s st blank at (ColorBackground c) = Ok (Go st blank)
+value_step s st blank at (ColorForeground c) = Ok (Go st blank)
+value_step s st blank at (ColorRectangle r c) = Ok (Go st blank)
+value_step s st blank at (Field n w) = Ok (Go st blank)
+value_step s st blank at (Flash o a b) = Ok (Go st blank)
+value_step s st blank at FlashEnd = Ok (Go st blank)
+value_step s st blank at (Font f) = Ok (Go (font_step s st f) blank)
+value_step s st blank at (Graphic n p) = Ok (Go st blank)
 value_step s st blank at (HexadecimalCharacter c) = hex_step at st c
 value_step s st blank at (JustificationLine j) = go_if at (justified j s.line_just) (with_just_line st) blank
 value_step s st blank at (JustificationPage j) = go_if at (justified j s.page_just) (with_just_page st) blank
-value_step s st blank at (ManufacturerSpecific m p) = Go st blank
-value_step s st blank at (ManufacturerSpecificEnd m p) = Go st blank
-value_step s st blank at (MovingText m d t) = Go st blank
+value_step s st blank at (ManufacturerSpecific m p) = Ok (Go st blank)
+value_step s st blank at (ManufacturerSpecificEnd m p) = Ok (Go st blank)
+value_step s st blank at (MovingText m d t) = Ok (Go st blank)
 value_step s st blank at (NewLine ls) = new_line_step s st blank at ls
-value_step s st blank at NewPage = Turn
-value_step s st blank at (PageBackground c) = Go st blank
-value_step s st blank at (PageTime a b) = Go st blank
+value_step s st blank at NewPage = Ok Turn
+value_step s st blank at (PageBackground c) = Ok (Go st blank)
+value_step s st blank at (PageTime a b) = Ok (Go st blank)
 value_step s st blank at (SpacingCharacter n) = spacing_step s st blank at n
-value_step s st blank at SpacingCharacterEnd = Go (with_char_spacing st None) blank
+value_step s st blank at SpacingCharacterEnd = Ok (Go (with_char_spacing st NoNum) blank)
 value_step s st blank at (Text p) = span_step at st (entry_of 0 p.start p.len 0 st)
 value_step s st blank at (TextRectangle r) = rect_step s st at r
 
 -- an item that fails was refused by the page's scan
-abbrev pub item_step : Config → RenderState → Bool → Place → Said → Step
+abbrev pub item_step : Config → RenderState → Bool → Place → Said → Result Step Refusal
 item_step s st blank at (Is v) = value_step s st blank at v
-item_step s st blank at (Fails n) = Refuse (refusal_at at n)
+item_step s st blank at (Fails n) = Err (refusal_at at n)
 
-unfoldable pub step : Config → RenderState → Bool → Item → Step
+unfoldable pub step : Config → RenderState → Bool → Item → Result Step Refusal
 step s st blank it = item_step s st blank (place_of it) it.says
 
 -- ---- a message
@@ -299,8 +294,8 @@ pub data Event : Type 0 where
   stop : Refusal → Event
 
 abbrev pub stop_if : Option Refusal → List Event → List Event
-stop_if none l = l
-stop_if (some r) l = stop r ∷ []
+stop_if None l = l
+stop_if (Some r) l = stop r ∷ []
 
 -- the whole sign
 abbrev pub whole : Config → Rect
@@ -315,7 +310,7 @@ new_page s st =
       just_line = st.just_line;
       font = st.font;
       version = st.version;
-      line_spacing = None;
+      line_spacing = NoNum;
       char_spacing = st.char_spacing;
       line = 0;
       span = 0;
@@ -329,20 +324,20 @@ start s =
       just_page = s.page_just;
       just_line = s.line_just;
       font = s.font;
-      version = None;
-      line_spacing = None;
-      char_spacing = None;
+      version = NoNum;
+      line_spacing = NoNum;
+      char_spacing = NoNum;
       line = 0;
       span = 0;
     }
 
 -- "A pass ends at [tr], [np] or the end"; "Each pass starts with a blank line". acc: the spans of the pass so far; next reads the rest
-abbrev pub follow : Config → ℕ → ℕ → RenderState → List Entry → List Item → (ℕ → ℕ → RenderState → Bool → List Entry → List Event) → Step → List Event
-follow s a b st acc its next (Refuse r) = stop r ∷ []
-follow s a b st acc its next (Go st' blank) = next a b st' blank acc
-follow s a b st acc its next (Emit e st' blank) = next a b st' blank (acc ++ (e ∷ []))
-follow s a b st acc its next (Cut st') = pass st.rect acc ∷ next a b st' true []
-follow s a b st acc its next Turn =
+abbrev pub follow : Config → ℕ → ℕ → RenderState → List Entry → List Item → (ℕ → ℕ → RenderState → Bool → List Entry → List Event) → Result Step Refusal → List Event
+follow s a b st acc its next (Err r) = stop r ∷ []
+follow s a b st acc its next (Ok (Go st' blank)) = next a b st' blank acc
+follow s a b st acc its next (Ok (Emit e st' blank)) = next a b st' blank (acc ++ (e ∷ []))
+follow s a b st acc its next (Ok (Cut st')) = pass st.rect acc ∷ next a b st' true []
+follow s a b st acc its next (Ok Turn) =
     let c : Scan = scan s a b its in
     pass st.rect acc ∷ close c.on c.off ∷ stop_if c.fault (next c.on c.off (new_page s st) true [])
 

@@ -1,15 +1,15 @@
 -- What a listing goes over: the items of a message, what the fonts say of a span, and the sign. Rect, RenderState, Entry and Step are declared in
 -- src/lib.rt.
-use Rattle.std.specs.Prelude.{ℕ, List, map, length}
-use Rattle.std.proofs.Math.Option.{Option}
+use Rattle.std.specs.Prelude.{ℕ, List, map, length, Option}
 use Rattle.token.specs.Token.{Slice, slices}
 use Rattle.value.specs.declared.Place.{Place}
 use Rattle.value.specs.declared.OptNum.{OptNum}
-use Rattle.value.specs.declared.OptNum.TheVariants.{Some, None}
+use Rattle.value.specs.declared.OptNum.TheVariants.{Some as SomeNum, None as NoNum}
 use Rattle.records.specs.declared.Config.{Config}
 use Rattle.reading.specs.declared.Said.{Said}
 use Rattle.reading.specs.Reading.{item_of}
 use Rattle.layout.specs.declared.Entry.{Entry}
+use Rattle.layout.specs.declared.Fault.{Fault}
 
 -- a slice of the message, and what it says: its value, or the number of its refusal (5, 6 or 7)
 pub record Item : Type 0 where
@@ -31,13 +31,13 @@ items c msg = map (item_at c) (slices msg)
 
 -- the number of an option, or d where there is none
 abbrev pub unwrap_or : OptNum → ℕ → ℕ
-unwrap_or None d = d
-unwrap_or (Some n) d = n
+unwrap_or NoNum d = d
+unwrap_or (SomeNum n) d = n
 
 -- what the fonts say of a span: number and detail of the first of refusals 10 to 12 that it meets, of 10 and 11 alone, and its measures
 pub record Meter : Type 0 where
-  pub fault : Entry → Option (ℕ × ℕ)
-  pub font_fault : Entry → Option (ℕ × ℕ)
+  pub fault : Entry → Option Fault
+  pub font_fault : Entry → Option Fault
   pub width : Entry → ℕ
   pub height : Entry → ℕ
   pub spacing : Entry → ℕ

@@ -3,11 +3,11 @@
 
 ghost use Rattle.std.specs.Prelude.{◌≡◌, ◌<◌};
 ghost use Rattle.layout.specs.Types.{unwrap_or};
-ghost use Rattle.layout.specs.Read.{with_span, with_just_line, with_just_page, with_line, with_char_spacing, with_font, with_rect, unit as unit_of, whole as whole_of, new_page, start as start_of};
+ghost use Rattle.layout.specs.Read.{refusal_at, with_span, with_just_line, with_just_page, with_line, with_char_spacing, with_font, with_rect, unit as unit_of, whole as whole_of, new_page, start as start_of};
 
 use records::Config;
 use refusal::Refusal;
-use value::OptNum;
+use value::{OptNum, Place};
 
 // A text rectangle; left and top from 0: [tr]'s x - 1 and y - 1.
 #[derive(Clone, Copy)]
@@ -42,20 +42,33 @@ pub struct Entry {
     pub state: RenderState,
 }
 
-// What the scan of a page makes of an item: it goes by, ends the page, sets its times, or fails with a number.
+// Number and detail of refusal 10, 11 or 12: what the fonts say against a span.
+#[derive(Clone, Copy)]
+pub struct Fault {
+    pub number: u8,
+    pub detail: u16,
+}
+
+// What the scan of a page makes of an item that does not fail: it goes by, ends the page, or sets its times.
 #[derive(Clone, Copy)]
 pub enum Mark {
     Plain,
     Ends,
     Timed(OptNum, OptNum),
-    Wrong(u8),
 }
 
-// What an item of a pass does: a refusal; the next state and whether the line is still blank; a span with them;
+// A page's times, and its first failing slice.
+#[derive(Clone, Copy)]
+pub struct Scan {
+    pub on: u16,
+    pub off: u16,
+    pub fault: Option<Refusal>,
+}
+
+// What an item of a pass that is not refused does: the next state and whether the line is still blank; a span with them;
 // [tr], which ends the pass; [np].
 #[derive(Clone, Copy)]
 pub enum Step {
-    Refuse(Refusal),
     Go(RenderState, bool),
     Emit(Entry, RenderState, bool),
     Cut(RenderState),
@@ -103,14 +116,23 @@ pub fn unwrap_or(o: OptNum, d: u16) -> u16
     }
 }
 
+// A refusal of an item: it carries the item's place.
+pub fn refusal_at(p: Place, number: u8) -> Refusal
+    ensures { result ≡ refusal_at p number }
+{
+    Refusal {
+        number,
+        start: p.start,
+        length: p.len,
+        detail: 0,
+    }
+}
+
 // A size of 0 stands for 1.
 pub fn unit(n: u8) -> u16
     ensures { (result ≡ unit_of n) × (0 < result) }
 {
-    if n == 0 {
-        return 1;
-    }
-    base::wide16(n)
+    u16::from(n).max(1)
 }
 
 // The whole sign.
@@ -127,32 +149,35 @@ fn whole(c: Config) -> Rect
 
 impl RenderState {
     // The span number that comes next.
-    pub fn with_span(mut self, span: u8) -> RenderState
+    pub fn with_span(self, span: u8) -> RenderState
         ensures { result ≡ with_span self span }
     {
-        self.span = span;
-        self
+        RenderState { span, ..self }
     }
 
     // [jl] restarts the span number.
-    pub fn with_just_line(mut self, just: u8) -> RenderState
+    pub fn with_just_line(self, just: u8) -> RenderState
         ensures { result ≡ with_just_line self just }
     {
-        self.just_line = just;
-        self.with_span(0)
+        RenderState {
+            just_line: just,
+            ..self.with_span(0)
+        }
     }
 
     // [jp] restarts line and span numbers if it changes the justification.
-    pub fn with_just_page(mut self, just: u8) -> RenderState
+    pub fn with_just_page(self, just: u8) -> RenderState
         ensures { result ≡ with_just_page self just }
     {
         if just == self.just_page {
             return self;
         }
-        self.just_page = just;
-        self.line = 0;
-        self.span = 0;
-        self
+        RenderState {
+            just_page: just,
+            line: 0,
+            span: 0,
+            ..self
+        }
     }
 
     // [nl]: the next line.
@@ -160,20 +185,11 @@ impl RenderState {
         requires { self.line < 255 }
         ensures { result ≡ with_line self spacing }
     {
-        let rect = self.rect;
-        let version = self.version;
-        let char_spacing = self.char_spacing;
-        let line = self.line + 1;
         RenderState {
-            rect,
-            just_page: self.just_page,
-            just_line: self.just_line,
-            font: self.font,
-            version,
             line_spacing: spacing,
-            char_spacing,
-            line,
+            line: self.line + 1,
             span: 0,
+            ..self
         }
     }
 
@@ -181,19 +197,9 @@ impl RenderState {
     pub fn with_char_spacing(self, spacing: OptNum) -> RenderState
         ensures { result ≡ with_char_spacing self spacing }
     {
-        let rect = self.rect;
-        let version = self.version;
-        let line_spacing = self.line_spacing;
         RenderState {
-            rect,
-            just_page: self.just_page,
-            just_line: self.just_line,
-            font: self.font,
-            version,
-            line_spacing,
             char_spacing: spacing,
-            line: self.line,
-            span: self.span,
+            ..self
         }
     }
 
@@ -201,48 +207,35 @@ impl RenderState {
     pub fn with_font(self, font: u8, version: OptNum) -> RenderState
         ensures { result ≡ with_font self font version }
     {
-        let rect = self.rect;
-        let line_spacing = self.line_spacing;
-        let char_spacing = self.char_spacing;
         RenderState {
-            rect,
-            just_page: self.just_page,
-            just_line: self.just_line,
             font,
             version,
-            line_spacing,
-            char_spacing,
-            line: self.line,
-            span: self.span,
+            ..self
         }
     }
 
     // [tr] restarts line and span numbers.
-    pub fn with_rect(mut self, rect: Rect) -> RenderState
+    pub fn with_rect(self, rect: Rect) -> RenderState
         ensures { result ≡ with_rect self rect }
     {
-        self.rect = rect;
-        self.line = 0;
-        self.span = 0;
-        self
+        RenderState {
+            rect,
+            line: 0,
+            span: 0,
+            ..self
+        }
     }
 
     // [np]: line spacing and rectangle restart, the rest carries on.
     pub fn new_page(self, c: Config) -> RenderState
         ensures { result ≡ new_page c self }
     {
-        let char_spacing = self.char_spacing;
-        let version = self.version;
         RenderState {
             rect: whole(c),
-            just_page: self.just_page,
-            just_line: self.just_line,
-            font: self.font,
-            version,
             line_spacing: OptNum::None,
-            char_spacing,
             line: 0,
             span: 0,
+            ..self
         }
     }
 

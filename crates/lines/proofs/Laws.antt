@@ -1,17 +1,17 @@
 -- The lines and the first font fault of measured entries are those of the layout.
-use Prim.Native.Nat.{ℕ}
 use mathlib.Core.Path.{◌≡◌, refl, ◌∙◌, ap}
 use mathlib.Core.Bool.{Bool, true, false}
-use mathlib.Core.Option.{Option, none}
 use mathlib.Core.List.{List, [], ◌∷◌, map}
 use Rattle.base.specs.Pick.{pick}
+use Rattle.std.specs.Prelude.{Option, None}
 use Rattle.layout.specs.declared.Entry.{Entry}
+use Rattle.layout.specs.declared.Fault.{Fault}
 use Rattle.layout.specs.Types.{Meter}
 use Rattle.layout.specs.Placing.{Line, add_line, line_of, lines, or_else, first_fault, keep, select, same_page}
-use Rattle.rows.specs.Measured.{row_of, fault_of, fault_in, font_only, RowTells}
+use Rattle.rows.specs.Measured.{row_of, font_only, RowTells}
 use Rattle.lines.specs.Lines.{row_line, lines_from, row_fault, font_fault_from}
 
-none_or : (a : Option (ℕ × ℕ)) → or_else none a ≡ a
+none_or : (a : Option Fault) → or_else None a ≡ a
 unfolding or_else
 none_or a = refl
 
@@ -38,15 +38,15 @@ module _ (m : Meter) where
   from_faults p e [] = refl
   from_faults p e (x ∷ es) = look (same_page e x) (from_faults p e es)
     where
-      own : Option (ℕ × ℕ)
-      own = fault_of (font_only (fault_in (m.fault x)))
+      own : Option Fault
+      own = font_only (m.fault x)
 
-      rest : Option (ℕ × ℕ)
+      rest : Option Fault
       rest = first_fault (row_fault e.state.just_page) (map (row_of m) es)
 
-      look : (t : Bool) → rest ≡ first_fault m.font_fault (select (same_page e) es) → or_else (pick t own none) rest
+      look : (t : Bool) → rest ≡ first_fault m.font_fault (select (same_page e) es) → or_else (pick t own None) rest
           ≡ first_fault m.font_fault (keep t x (select (same_page e) es))
-      look true h = ap (λ (o : Option (ℕ × ℕ)). or_else o rest) (p.font x) ∙ ap (or_else (m.font_fault x)) h
+      look true h = ap (λ (o : Option Fault). or_else o rest) (p.font x) ∙ ap (or_else (m.font_fault x)) h
       look false h = none_or rest ∙ h
 
   -- and so is their first font fault

@@ -1,4 +1,3 @@
 pub mod Lists
-pub mod Gaps
 pub mod Feet
 pub mod Laws

@@ -1,10 +1,10 @@
 -- Document 01, "The line list holds at most 256 lines": the lines of the rows with a page justification, and what stands above each line's foot.
-use Rattle.std.specs.Prelude.{ℕ, ◌-◌, ◌≤◌, ◌<◌, ◌≡◌, List, [], ◌∷◌, eqb, get_or, take, map, Option, Some, None}
-use Rattle.std.proofs.Math.Option.{Option as Optional, none, some}
+use Rattle.std.specs.Prelude.{ℕ, ◌-◌, ◌≤◌, ◌<◌, ◌≡◌, List, [], ◌∷◌, eqb, get_or, map, Option, None, option_map}
 use Rattle.base.specs.Pick.{pick}
 use Rattle.layout.specs.Placing.{Line, add_line, first_fault, or_else, above, total}
+use Rattle.layout.specs.declared.Fault.{Fault}
 use Rattle.rows.specs.declared.Row.{Row}
-use Rattle.rows.specs.Measured.{fault_of, font_only}
+use Rattle.rows.specs.Measured.{font_only}
 use Rattle.lines.specs.declared.LineList.{LineList}
 use Rattle.lines.specs.declared.TextLine.{TextLine}
 use Rattle.lines.specs.declared.PageLines.{PageLines}
@@ -16,13 +16,12 @@ abbrev pub line_is : TextLine → Line
 line_is t = record { height = t.height; font_spacing = t.font_spacing; line_spacing = t.line_spacing }
 
 -- the line above, if there is one
-abbrev pub line_above : Option TextLine → Optional Line
-line_above None = none
-line_above (Some t) = some (line_is t)
+abbrev pub line_above : Option TextLine → Option Line
+line_above o = option_map line_is o
 
 -- the lines that a list holds
 unfoldable pub lines_in : LineList → List Line
-lines_in l = map line_is (take l.count l.lines)
+lines_in l = map line_is l.lines.items
 
 -- ---- the rows
 
@@ -34,24 +33,22 @@ abbrev pub lines_from : ℕ → List Line → List Row → List Line
 lines_from j ls [] = ls
 lines_from j ls (r ∷ rs) = lines_from j (pick (eqb j r.just_page) (add_line r.line (row_line r) ls) ls) rs
 
-abbrev pub row_fault : ℕ → Row → Optional (ℕ × ℕ)
-row_fault j r = pick (eqb j r.just_page) (fault_of (font_only r.fault)) none
+abbrev pub row_fault : ℕ → Row → Option Fault
+row_fault j r = pick (eqb j r.just_page) (font_only r.fault) None
 
 -- and their first font fault
-unfoldable pub font_fault_from : ℕ → List Row → Optional (ℕ × ℕ)
+unfoldable pub font_fault_from : ℕ → List Row → Option Fault
 font_fault_from j rs = first_fault (row_fault j) rs
 
 -- a row was added to a list
 pub record RowAdded (l : LineList) (r : Row) (l' : LineList) : Type 0 where
   pub lines : lines_in l' ≡ add_line r.line (row_line r) (lines_in l)
-  pub font : fault_of l'.fault ≡ or_else (fault_of l.fault) (fault_of (font_only r.fault))
-  pub few : l'.count ≤ 256
+  pub font : l'.fault ≡ or_else l.fault (font_only r.fault)
 
 -- the list holds the lines of the rows with a page justification
 pub record LinesOf (rows : List Row) (just : ℕ) (l : LineList) : Type 0 where
   pub lines : lines_in l ≡ lines_from just [] rows
-  pub font : fault_of l.fault ≡ font_fault_from just rows
-  pub few : l.count ≤ 256
+  pub font : l.fault ≡ font_fault_from just rows
 
 -- ---- the feet
 
@@ -70,7 +67,7 @@ heights_in p line =
 -- the lines of the rows with a page justification are summed up
 pub record PageHeights (ch : ℕ) (rows : List Row) (just : ℕ) (p : PageLines) : Type 0 where
   pub page : p.just ≡ just
-  pub feet : (line : ℕ) → line < 256 → foot_in p line ≡ above ch line none (lines_from just [] rows)
-  pub high : p.total ≡ total ch none (lines_from just [] rows)
+  pub feet : (line : ℕ) → line < 256 → foot_in p line ≡ above ch line None (lines_from just [] rows)
+  pub high : p.total ≡ total ch None (lines_from just [] rows)
   pub small : p.total ≤ 33554432
-  pub font : fault_of p.fault ≡ font_fault_from just rows
+  pub font : p.fault ≡ font_fault_from just rows

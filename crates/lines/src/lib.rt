@@ -6,7 +6,9 @@ ghost use Rattle.layout.specs.Placing.{first_of as first_num, combine as combine
 ghost use Rattle.rows.specs.Measured.{font_only};
 ghost use Rattle.lines.specs.Lines.{line_is, line_above, row_line, RowAdded, LinesOf, PageHeights, foot_in, heights_in};
 
-use rows::{Fault, Row};
+use arrayvec::ArrayVec;
+use layout::Fault;
+use rows::Row;
 use value::OptNum;
 
 // A line, and a span as a line of its own.
@@ -15,6 +17,16 @@ struct TextLine {
     height: u16,
     font_spacing: u16,
     line_spacing: OptNum,
+}
+
+impl Default for TextLine {
+    fn default() -> TextLine {
+        TextLine {
+            height: 0,
+            font_spacing: 0,
+            line_spacing: OptNum::None,
+        }
+    }
 }
 
 // The first of two numbers that is there.
@@ -60,26 +72,21 @@ fn font_only(fault: Option<Fault>) -> Option<Fault>
 // The lines so far, each at its number, and the first font fault met while they were collected.
 #[derive(Drop)]
 struct LineList {
-    lines: [TextLine; 256],
-    count: usize,
+    lines: ArrayVec<TextLine, 256>,
     fault: Option<Fault>,
 }
 
 impl LineList {
     // A row more: it joins the line of its number, or is the next line.
     fn add(&mut self, row: &Row)
-        requires { self.old.count ≤ 256 }
         ensures { RowAdded self.old row.now self.new }
     {
         self.fault = self.fault.or(font_only(row.fault));
         let own = TextLine::new(row);
-        let at = usize::from(row.line);
-        if at < self.count {
-            self.lines[at] = self.lines[at].combine(own);
-            return;
+        match self.lines.get_mut(usize::from(row.line)) {
+            Some(line) => *line = line.combine(own),
+            None => self.lines.push(own),
         }
-        self.lines[self.count] = own;
-        self.count += 1;
     }
 }
 
@@ -87,14 +94,8 @@ impl LineList {
 fn line_list(rows: &[Row], just: u8) -> LineList
     ensures { LinesOf rows.now just result }
 {
-    let blank = TextLine {
-        height: 0,
-        font_spacing: 0,
-        line_spacing: OptNum::None,
-    };
     let mut list = LineList {
-        lines: [blank; 256],
-        count: 0,
+        lines: ArrayVec::new(),
         fault: None,
     };
     for row in rows {
@@ -106,6 +107,7 @@ fn line_list(rows: &[Row], just: u8) -> LineList
 }
 
 // The spacing above a line.
+#[tactic(auto, unfolding(layout::specs::Placing::line_gap))]
 fn gap(char_height: u8, above: Option<TextLine>, line: TextLine) -> u32
     ensures is { result ≡ gap_above char_height (line_above above) (line_is line) }
     ensures small { result < 65536 }
@@ -148,12 +150,12 @@ impl PageLines {
         let mut feet = [0u32; 256];
         let mut total: u32 = 0;
         let mut above: Option<TextLine> = None;
-        for (i, line) in list.lines[..list.count].iter().enumerate() {
+        for (i, line) in list.lines.iter().enumerate() {
             total += gap(char_height, above, *line) + u32::from(line.height);
             feet[i] = total;
             above = Some(*line);
         }
-        feet[list.count..].fill(total);
+        feet[list.lines.len()..].fill(total);
         PageLines {
             just,
             feet,

@@ -1,114 +1,82 @@
 // Page states, and the scan of a page: its times and its first failing slice, before any placing.
 #![tactic(auto)]
 
-ghost use Rattle.std.specs.Prelude.{◌≡◌, ◌-◌, ◌≤◌, length, take, drop};
+ghost use Rattle.std.specs.Prelude.{◌≡◌, ◌+◌, ◌≤◌, length};
 ghost use Rattle.layout.specs.Read.{tagged as tagged_of, mark_of, mark_item, scan as scan_of};
 ghost use Rattle.page.specs.State.{new_page, done_after, next_state};
-ghost use Rattle.page.specs.Scan.{told, look_by, look_at, items_from};
+ghost use Rattle.page.specs.Scan.{look_by, look_at, items_from};
 
-use layout::Mark;
+use layout::{Mark, Scan};
 use reading::Said;
 use records::Config;
-use refusal::{OptRefusal, Refusal};
+use std::ops::ControlFlow;
 use value::{Place, Value};
 
-// A page's times, and its first failing slice.
-#[derive(Clone, Copy)]
-pub struct PageScan {
-    pub on: u16,
-    pub off: u16,
-    pub fault: OptRefusal,
-}
-
-// The times after an item, or the scan's end.
-#[derive(Clone, Copy)]
-pub enum Look {
-    On(u16, u16),
-    Stop(PageScan),
-}
-
 // A tag needs its name's bit in the sign's tags.
-fn tagged(tags: u32, v: Value, m: Mark) -> Mark
+fn tagged(tags: u32, v: Value, m: Mark) -> Result<Mark, u8>
     ensures { result ≡ tagged_of tags v m }
 {
     if value::has_tag(tags, v.tag()) {
-        return m;
+        Ok(m)
+    } else {
+        Err(5)
     }
-    Mark::Wrong(5)
 }
 
-fn mark_of(tags: u32, v: Value) -> Mark
+fn mark_of(tags: u32, v: Value) -> Result<Mark, u8>
     ensures { result ≡ mark_of tags v }
 {
     match v {
-        Value::ColorBackground(_) => tagged(tags, v, Mark::Plain),
-        Value::ColorForeground(_) => tagged(tags, v, Mark::Plain),
-        Value::ColorRectangle(_, _) => tagged(tags, v, Mark::Plain),
-        Value::Field(_, _) => tagged(tags, v, Mark::Plain),
-        Value::Flash(_, _, _) => tagged(tags, v, Mark::Plain),
-        Value::FlashEnd => tagged(tags, v, Mark::Plain),
-        Value::Font(_) => tagged(tags, v, Mark::Plain),
-        Value::Graphic(_, _) => tagged(tags, v, Mark::Plain),
-        Value::HexadecimalCharacter(_) => tagged(tags, v, Mark::Plain),
-        Value::JustificationLine(_) => tagged(tags, v, Mark::Plain),
-        Value::JustificationPage(_) => tagged(tags, v, Mark::Plain),
-        Value::ManufacturerSpecific(_, _) => tagged(tags, v, Mark::Plain),
-        Value::ManufacturerSpecificEnd(_, _) => tagged(tags, v, Mark::Plain),
-        Value::MovingText(_, _, _) => tagged(tags, v, Mark::Plain),
-        Value::NewLine(_) => tagged(tags, v, Mark::Plain),
         Value::NewPage => tagged(tags, v, Mark::Ends),
-        Value::PageBackground(_) => tagged(tags, v, Mark::Plain),
         Value::PageTime(on, off) => tagged(tags, v, Mark::Timed(on, off)),
-        Value::SpacingCharacter(_) => tagged(tags, v, Mark::Plain),
-        Value::SpacingCharacterEnd => tagged(tags, v, Mark::Plain),
-        Value::Text(_) => Mark::Plain,
-        Value::TextRectangle(_) => tagged(tags, v, Mark::Plain),
+        Value::Text(_) => Ok(Mark::Plain),
+        _ => tagged(tags, v, Mark::Plain),
     }
 }
 
-fn mark_item(tags: u32, item: Said) -> Mark
+fn mark_item(tags: u32, item: Said) -> Result<Mark, u8>
     ensures { result ≡ mark_item tags item }
 {
     match item {
         Said::Is(v) => mark_of(tags, v),
-        Said::Fails(n) => Mark::Wrong(n),
+        Said::Fails(n) => Err(n),
     }
 }
 
 // The times after an item at a place, or the scan's end.
-fn look_by(c: Config, on: u16, off: u16, p: Place, m: Mark) -> Look
+fn look_by(
+    c: Config,
+    on: u16,
+    off: u16,
+    p: Place,
+    m: Result<Mark, u8>,
+) -> ControlFlow<Scan, (u16, u16)>
     ensures { result ≡ look_by c on off p m }
 {
     match m {
-        Mark::Plain => Look::On(on, off),
-        Mark::Ends => Look::Stop(PageScan {
+        Ok(Mark::Plain) => ControlFlow::Continue((on, off)),
+        Ok(Mark::Ends) => ControlFlow::Break(Scan {
             on,
             off,
-            fault: OptRefusal::None,
+            fault: None,
         }),
-        Mark::Timed(a, b) => Look::On(
-            layout::unwrap_or(a, c.on_time as u16),
-            layout::unwrap_or(b, c.off_time as u16),
-        ),
-        Mark::Wrong(number) => Look::Stop(PageScan {
+        Ok(Mark::Timed(a, b)) => ControlFlow::Continue((
+            layout::unwrap_or(a, u16::from(c.on_time)),
+            layout::unwrap_or(b, u16::from(c.off_time)),
+        )),
+        Err(number) => ControlFlow::Break(Scan {
             on,
             off,
-            fault: OptRefusal::Some(Refusal {
-                number,
-                start: p.start,
-                length: p.len,
-                detail: 0,
-            }),
+            fault: Some(layout::refusal_at(p, number)),
         }),
     }
 }
 
-// What the slice from a place to its end makes of the times.
-fn look_at(msg: &[u8], at: usize, end: usize, c: Config, on: u16, off: u16) -> Look
-    requires { (at ≤ end) × (end ≤ length msg.now) × (length msg.now ≤ 2048) }
-    ensures { result ≡ look_at c on off at (take (end - at) (drop at msg.now)) }
+// What the slice s, which starts at a place, makes of the times.
+fn look_at(s: &[u8], at: usize, c: Config, on: u16, off: u16) -> ControlFlow<Scan, (u16, u16)>
+    requires { at + length s.now ≤ 2048 }
+    ensures { result ≡ look_at c on off at s.now }
 {
-    let s = &msg[at..end];
     let m = mark_item(c.tags, reading::item_of(at, s, c.long_times));
     let p = Place {
         start: at as u16,
@@ -118,30 +86,26 @@ fn look_at(msg: &[u8], at: usize, end: usize, c: Config, on: u16, off: u16) -> L
 }
 
 // The scan of a page from a place of the message on, up to and including [np].
-pub fn scan(msg: &[u8], from: usize, c: Config, on: u16, off: u16) -> PageScan
+pub fn scan(msg: &[u8], from: usize, c: Config, mut on: u16, mut off: u16) -> Scan
     requires { length msg.now ≤ 2048 }
-    ensures { told result ≡ scan_of c on off (items_from c from msg.now) }
+    ensures { result ≡ scan_of c on off (items_from c from msg.now) }
 {
-    let mut a = on;
-    let mut b = off;
     let mut at = from;
     while at < msg.len() {
         let end = token::slice_end(msg, at);
-        match look_at(msg, at, end, c, a, b) {
-            Look::Stop(s) => {
-                return s;
-            }
-            Look::On(p, q) => {
-                a = p;
-                b = q;
-                at = end;
+        match look_at(&msg[at..end], at, c, on, off) {
+            ControlFlow::Break(s) => return s,
+            ControlFlow::Continue((p, q)) => {
+                on = p;
+                off = q;
             }
         }
+        at = end;
     }
-    PageScan {
-        on: a,
-        off: b,
-        fault: OptRefusal::None,
+    Scan {
+        on,
+        off,
+        fault: None,
     }
 }
 
@@ -181,19 +145,9 @@ impl PageState {
         ensures { result ≡ next_state self }
     {
         match self {
-            PageState::On(more) => {
-                if more {
-                    return PageState::Off(true);
-                }
-                PageState::Done
-            }
-            PageState::Off(more) => {
-                if more {
-                    return PageState::On(false);
-                }
-                PageState::Done
-            }
-            PageState::Done => PageState::Done,
+            PageState::On(true) => PageState::Off(true),
+            PageState::Off(true) => PageState::On(false),
+            PageState::On(false) | PageState::Off(false) | PageState::Done => PageState::Done,
         }
     }
 }

@@ -4,13 +4,11 @@ use Rattle.std.proofs.Common.{refl, ◌∙◌, ap, arith, add-one}
 use borrow.Author.Tests.{eqb-true, eqb-false}
 use Rattle.std.proofs.lemmas.List.{get_or-set_same, get_or-set_other, take-set-le, take_more_set}
 use Rattle.std.proofs.Math.Seq.{length-take-le, drop-cons}
-use Rattle.std.proofs.Math.Option.{Option as Optional, none, some}
 use Rattle.std.specs.Option.{option_or}
+use Rattle.layout.specs.declared.Fault.{Fault}
 use Rattle.layout.specs.declared.Span.{Span}
 use Rattle.layout.specs.Placing.{or_else}
-use Rattle.rows.specs.declared.Fault.{Fault}
 use Rattle.rows.specs.declared.Row.{Row}
-use Rattle.rows.specs.Measured.{fault_of, fault_in}
 use Rattle.rows.specs.Rows.{cells, RowRoom, rows_of, SpanRoom, blank_span, span_at, spans_of, link_at, mark_at, LinkPut, MarkPut}
 
 -- ---- cells
@@ -101,17 +99,8 @@ module _ {l : List Span} {i x : ℕ} {l' : List Span} (p : MarkPut l i x l') (h 
 
 -- ---- faults
 
--- a fault has a number and a detail, so that nothing is lost
-pub fault_kept : (o : Optional (ℕ × ℕ)) → fault_of (fault_in o) ≡ o
-fault_kept none = refl
-fault_kept (some f) = refl
-
-pub fault_back : (o : Option Fault) → fault_in (fault_of o) ≡ o
-fault_back None = refl
-fault_back (Some f) = refl
-
 -- the first of two
-pub earlier_is : (a b : Option Fault) → fault_of (option_or a b) ≡ or_else (fault_of a) (fault_of b)
+pub earlier_is : (a b : Option Fault) → option_or a b ≡ or_else a b
 unfolding or_else
 earlier_is None b = refl
 earlier_is (Some f) b = refl

@@ -1,12 +1,11 @@
 -- The row of an entry: what the fonts say of it is taken once, and kept with it.
 use Rattle.std.specs.Prelude.{ℕ, ◌≡◌, Bool, true, false, eqb, Option, Some, None}
-use Rattle.std.proofs.Math.Option.{Option as Optional, none, some}
 use Rattle.base.specs.Pick.{pick}
 use Rattle.value.specs.declared.OptNum.{OptNum}
 use Rattle.value.specs.declared.OptNum.TheVariants.{Some as num, None as no_num}
 use Rattle.layout.specs.declared.Entry.{Entry}
+use Rattle.layout.specs.declared.Fault.{Fault}
 use Rattle.layout.specs.Types.{Meter}
-use Rattle.rows.specs.declared.Fault.{Fault}
 use Rattle.rows.specs.declared.Gauge.{Gauge}
 use Rattle.rows.specs.declared.Row.{Row}
 
@@ -14,15 +13,6 @@ use Rattle.rows.specs.declared.Row.{Row}
 abbrev pub flag : OptNum → Bool
 flag no_num = false
 flag (num n) = true
-
--- a fault as number and detail, and back
-abbrev pub fault_of : Option Fault → Optional (ℕ × ℕ)
-fault_of None = none
-fault_of (Some f) = some (f.number, f.detail)
-
-abbrev pub fault_in : Optional (ℕ × ℕ) → Option Fault
-fault_in none = None
-fault_in (some f) = Some (record { number = f.0; detail = f.1 })
 
 -- what the fonts say of a span
 abbrev pub gauge_of : Meter → Entry → Gauge
@@ -32,7 +22,7 @@ gauge_of m e =
       height = m.height e;
       font_spacing = m.line_spacing e;
       width = m.width e;
-      fault = fault_in (m.fault e);
+      fault = m.fault e;
     }
 
 -- the row of a span with its gauge
@@ -68,4 +58,4 @@ font_only (Some f) = pick (eqb f.number 12) None (Some f)
 -- rows tell what a meter says: a span's spacing is its [sc] value where one holds; a font's fault comes first
 pub record RowTells (m : Meter) : Type 0 where
   pub spaced : (e : Entry) (n : ℕ) → e.state.char_spacing ≡ num n → m.spacing e ≡ n
-  pub font : (e : Entry) → fault_of (font_only (fault_in (m.fault e))) ≡ m.font_fault e
+  pub font : (e : Entry) → font_only (m.fault e) ≡ m.font_fault e

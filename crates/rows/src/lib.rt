@@ -6,15 +6,8 @@ ghost use Rattle.layout.specs.Placing.{half_up};
 ghost use Rattle.rows.specs.Measured.{flag as flag_of, row_by};
 ghost use Rattle.rows.specs.Rows.{link_at, mark_at, LinkPut, MarkPut};
 
-use layout::{Entry, Span};
+use layout::{Entry, Fault, Span};
 use value::OptNum;
-
-// Number and detail of refusal 10, 11 or 12.
-#[derive(Clone, Copy)]
-pub struct Fault {
-    pub number: u8,
-    pub detail: u16,
-}
 
 // An entry of a pass with its measures. kind to code: as in its record. just_page to span: of the state it was read in.
 // spacing: its [sc] value where fixed, else its font's. lead: the line spacing of the [nl] before it.
@@ -144,7 +137,7 @@ pub fn put_link(out: &mut [Span], i: usize, link: u16)
     out[i].kind = link;
 }
 
-// Its x holds the mark of its row: its place across, with 1 added; 0 until it is known.
+// Its x holds the mark of its row: its place across, with 1 added; 0 until it is known (the field of a record has no room for an Option).
 pub fn mark_at(out: &[Span], i: usize) -> u16
     requires { i < length out.now }
     ensures { result ≡ mark_at out.now i }

@@ -1,24 +1,20 @@
+use mathlib.Core.Path.{◌∙◌}
 use borrow.Author.Rules.{rules}
-use Rattle.page.proofs.Laws.{scan_begun, scan_asks, scan_stop, scan_on, scan_end}
+use Rattle.token.proofs.Laws.{next_le, next_from, next_less}
+use Rattle.page.proofs.Laws.{scan_stop, scan_on, scan_end}
 use Rattle.page.proofs.scan.Goals as goal
 
-pub loop-at-init : goal.loop-at-init
-loop-at-init c = search scan_begun
+pub slice_bounds-look_at-end : goal.slice_bounds-look_at-end
+slice_bounds-look_at-end c = search (next_le, next_from, rules) depth 6
 
-pub slice_end-end-requires : goal.slice_end-end-requires
-slice_end-end-requires c = search (scan_asks, rules) depth 6
-
-pub look_at-requires : goal.look_at-requires
-look_at-requires c = search (scan_asks, rules) depth 6
-
-pub returns-in-Stop : goal.returns-in-Stop
-returns-in-Stop c = search scan_stop
+pub returns-in-Break : goal.returns-in-Break
+returns-in-Break c = scan_stop _ _ _ _ _ c.loop-at-test.true _ c.slice_end-end.ensures _ c.look_at.ensures _ c.in-Break.is ∙ c.loop-at.invariant
 
 pub loop-at-smaller : goal.loop-at-smaller
-loop-at-smaller c = search (scan_asks, rules) depth 6
+loop-at-smaller c = next_less _ _ c.loop-at-test.true _ c.slice_end-end.ensures
 
 pub loop-at-preserved : goal.loop-at-preserved
-loop-at-preserved c = search scan_on
+loop-at-preserved c = scan_on _ _ _ _ _ c.loop-at-test.true _ c.slice_end-end.ensures _ c.look_at.ensures _ _ c.in-Continue.is ∙ c.loop-at.invariant
 
 pub returns : goal.returns
-returns c = search scan_end
+returns c = scan_end _ _ _ _ _ c.loop-at-test.false ∙ c.loop-at.invariant

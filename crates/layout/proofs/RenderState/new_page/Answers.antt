@@ -1,4 +1,0 @@
-use Rattle.layout.proofs.RenderState.new_page.Goals as goal
-
-pub returns : goal.returns
-returns c = cc

@@ -1,4 +1,0 @@
-use Rattle.layout.proofs.RenderState.start.Goals as goal
-
-pub returns : goal.returns
-returns c = cc
