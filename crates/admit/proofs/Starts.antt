@@ -6,16 +6,12 @@ use mathlib.Core.List.{List, [], ◌∷◌}
 use native.Mathlib.Omega.{arith}
 use lib.Dec.{ltb}
 use lib.ListN.{length, get_or}
-use mir.Val as Val
-use mir.Syntax.{w16}
 use borrow.Author.Tests.{ltb-false}
 use Rattle.base.specs.Pick.{pick}
 use Rattle.records.specs.Config.{is_config}
 use Rattle.records.specs.Record.{little_at, whole, Piece, Record, CutShort, first_piece, rest_len, cut_from, pieces}
 use Rattle.sign.specs.Sign.{past_options, Before, NoFont, After, is_font, is_character, adding, Verdict, Fine, FailsAt, fault_from, first_fault, fault, RefusedAt, answer, config_in, fonts_of, sign_file}
-use Rattle.sign.specs.Given.{given as table_of}
-use Rattle.sign.specs.declared.SignFile.{SignFile}
-use Rattle.sign.specs.declared.Outcome.TheVariants.{RefusedAt as RefusedOutcome}
+use Rattle.sign.specs.Given.{refusal_at, given as table_of}
 use Rattle.sign.proofs.Answer.{refuses}
 use Rattle.sign.proofs.Options.{options_keep}
 
@@ -73,10 +69,10 @@ fault_small file = go (ltb 65535 (length file)) refl
     go true q = omega arith
     go false q = first_small 65535 (cut_from 0 0 file) (cuts_at 65535 0 0 file (omega (arith, ltb-false 65535 (length file) q)))
 
-pub start_small : (file : List ℕ) {t : SignFile} → t ≡ table_of (sign_file file) → {at : ℕ} → t.outcome ≡ RefusedOutcome at → Val.Fits w16 at
+pub start_small : (file : List ℕ) (at : ℕ) → refusal_at at ≡ table_of (sign_file file) → at < 65536
 unfolding sign_file
-start_small file {t} e {at} h = go (fault file) (fault_small file) (refuses file t e at h)
+start_small file at e = go (fault file) (fault_small file) (refuses file at e)
   where
-    go : (v : Verdict) → Small 65535 v → answer v (config_in (pieces file)) (fonts_of (pieces file)) ≡ RefusedAt at → Val.Fits w16 at
-    go Fine s q = absurd (let z : ◌≡◌ {A = ℕ} 0 1 = cc in omega arith)
+    go : (v : Verdict) → Small 65535 v → answer v (config_in (pieces file)) (fonts_of (pieces file)) ≡ RefusedAt at → at < 65536
+    go Fine s q = cc
     go (FailsAt n) s q = let k : n ≡ at = cc in omega (arith, s)

@@ -1,13 +1,12 @@
 -- How many characters a span's measure looks up at most.
-use Prim.Native.Nat.{ℕ, zero, suc, ◌+◌, ◌≤◌, ◌<◌}
+use Prim.Native.Nat.{ℕ, zero, suc, ◌≤◌, ◌<◌}
 use native.Mathlib.Omega.{arith}
-use mathlib.Core.Path.{◌≡◌, refl, ap}
+use mathlib.Core.Path.{◌≡◌}
 use mathlib.Core.Bool.{Bool, true, false}
-use mathlib.Core.Option.{Option, none, some}
-use mathlib.Core.List.{List, [], ◌∷◌, ◌++◌, map}
+use mathlib.Core.List.{List, [], ◌∷◌}
 use lib.Dec.{eqb}
 use lib.ListN.{length, take, drop, length-take}
-use Rattle.std.specs.Prelude.{sum_by}
+use Rattle.std.specs.Prelude.{Option, Some, None, sum_by}
 use Rattle.std.proofs.lemmas.List.Folds.{fold-map}
 use Rattle.base.specs.Pick.{pick}
 use Rattle.utf8.specs.Utf8.{extra, codes, codes_from}
@@ -16,7 +15,6 @@ use Rattle.font.specs.Character.{character_in, letters_of}
 use Rattle.font.specs.Table.{font_numbered}
 use Rattle.font.specs.Measure.{looked_on, looked_up}
 use Rattle.font.specs.declared.Found.{Found}
-use Rattle.font.specs.declared.Found.TheVariants.{Is, Missing as Absent}
 use Rattle.layout.specs.declared.Entry.{Entry}
 use Rattle.layout.specs.declared.Rect.{Rect}
 use Rattle.layout.specs.Types.{Board}
@@ -31,9 +29,9 @@ unfolding looked_up
 looked_most chs [] = omega arith
 looked_most chs (c ∷ l) = go (character_in c chs) (looked_most chs l)
   where
-    go : (f : Found) → looked_up chs l ≤ length l → suc (looked_on f (looked_up chs l)) ≤ suc (length l)
-    go (Is more bitmap) h = omega arith
-    go Absent h = omega arith
+    go : (f : Option Found) → looked_up chs l ≤ length l → suc (looked_on f (looked_up chs l)) ≤ suc (length l)
+    go (Some x) h = omega arith
+    go None h = omega arith
 
 codes_most : (k : ℕ) (l : List ℕ) → length (codes_from k l) ≤ length l
 unfolding codes_from
@@ -55,8 +53,8 @@ chars_most msg e n h k = go (eqb e.kind 0) (eqb e.kind 1)
     go false false = omega arith
 
 pub looked_few : (msg : List ℕ) (e : Entry) (capitals : Bool) (o : Option Font) (n : ℕ) → e.len ≤ n → 0 < n → looked_in capitals (chars_of msg e) o ≤ n
-looked_few msg e capitals none n h k = omega arith
-looked_few msg e capitals (some f) n h k =
+looked_few msg e capitals None n h k = omega arith
+looked_few msg e capitals (Some f) n h k =
     omega (arith, looked_most (letters_of capitals f.characters) (chars_of msg e), chars_most msg e n h k)
 
 -- ---- the records of a pass tell what is looked up for its spans

@@ -2,7 +2,6 @@
 use Prim.Native.Nat.{ℕ, zero, suc}
 use native.Mathlib.Omega.{arith}
 use mathlib.Core.Path.{◌≡◌, refl, sym, ◌∙◌, ap}
-use mathlib.Core.Option.{Option as Maybe, some}
 use Rattle.std.specs.Prelude.{Option, Some, None}
 use mathlib.Core.List.{List, [], ◌∷◌, ◌++◌, map}
 use lib.ListN.{length, drop}
@@ -46,10 +45,10 @@ module _ (c : Config) (fs : List Font) (msg : List ℕ) where
   Equal qs = chars_looked (Accepted c fs) msg qs ≡ chars_printed msg qs
 
   -- how many characters the measure of a text looks up
-  abbrev looks : List ℕ → Maybe Font → ℕ
+  abbrev looks : List ℕ → Option Font → ℕ
   looks = looked_in c.capitals
 
-  found : (l : List ℕ) (o : Maybe Font) (f : Font) (w : ℕ) → o ≡ some f → looks l (some f) ≡ w → looks l o ≡ w
+  found : (l : List ℕ) (o : Option Font) (f : Font) (w : ℕ) → o ≡ Some f → looks l (Some f) ≡ w → looks l o ≡ w
   found l o f w p q = rw p q
 
   span_looked : (r : Rect) (es : List Entry) (e : Entry) → In e es → span_fault s r es e ≡ None

@@ -6,9 +6,9 @@ use Rattle.number.specs.Number.{digit_of, read_from, read_digits, read_number, v
 use Rattle.utf8.specs.Utf8.{first, extra, low as low_byte, high, fits as fits_due, after_byte, well_formed_from, well_formed, code_of, codes_from, codes, all_latin1}
 use Rattle.token.specs.Token.{plain_len, tag_len, rest_len, slices, is_pair, last_byte, shape_of}
 use Rattle.part.specs.Part.{lower, up_to, past as past_sep, holds}
-use Rattle.param.specs.Param.{number, optional, xy, rectangle, color, read_optional, optional_version, justification, read_xy, rectangle_of, read_rgb, rgb_of, color_of}
+use Rattle.param.specs.Param.{read_optional, optional_version, justification, read_xy, rectangle_of, read_rgb, rgb_of, color_of}
 use Rattle.tag.specs.Tag.{new_line, new_page as new_page_tag, font as font_tag, justification_line, justification_page, page_time, page_background, color_foreground, color_background, four_of, fifth, color_rectangle, last_four, text_rectangle, spacing_character, hexadecimal_character, flash_on, flash_off, flash_time, field, point_of, graphic_at, graphic, spacing_character_end, flash_end}
-use Rattle.parse.specs.Parse.{text_of, manufacturer_specific, manufacturer_specific_end, movement, movement_parts, movement_of, moved, moving_text_mode, moving_text_linear, moving_text, end_name, first_name, name_by, name_of, tag_value}
+use Rattle.parse.specs.Parse.{text_of, manufacturer_specific, manufacturer_specific_end, movement, movement_parts, movement_of, moving_text_mode, moving_text_linear, moving_text, end_name, first_name, name_by, name_of, tag_value}
 use Rattle.value.specs.Tag.{field_tag}
 use Rattle.reading.specs.Reading.{tag_item, text_item, item_of}
 use Rattle.records.specs.Record.{little_at, body_len, kind_of, whole as whole_record, first_piece, rest_len as rest_len_record, cut_from, pieces}
@@ -51,14 +51,15 @@ record Examples : Type 0 where
   stand_ins_counted : placed_on (board_with (option 4)) "aB[hc62]" 0 ≡ record { answer = On 30 2; looked = 3; spans = 2 }
 
 examples : Examples
-unfolding digit_of read_from read_digits read_number version_id first extra low_byte high fits_due after_byte well_formed_from well_formed code_of codes_from codes
-    all_latin1 plain_len tag_len rest_len slices is_pair last_byte shape_of lower up_to past_sep holds number optional xy rectangle color read_optional
-    optional_version justification read_xy rectangle_of read_rgb rgb_of color_of new_line new_page_tag font_tag justification_line justification_page page_time
-    page_background color_foreground color_background four_of fifth color_rectangle last_four text_rectangle spacing_character hexadecimal_character flash_on
-    flash_off flash_time field point_of graphic_at graphic spacing_character_end flash_end text_of manufacturer_specific manufacturer_specific_end movement
-    movement_parts movement_of moved moving_text_mode moving_text_linear moving_text end_name first_name name_by name_of tag_value field_tag tag_item text_item item_of
-    little_at body_len kind_of whole_record first_piece rest_len_record cut_from pieces config_of size_ok just_ok not_zero bits_ok tags_ok config_ok is_config characters_of
-    fonts_of has_option past_option past_options config_in member is_font bitmap_len is_character fault_from first_bad fault sign_file items measure_in meter_of board_of
-    lookup character_in is_capital stand_ins widened width_after text_width looked_up step opening events or_else unless due line_gap before_of after_of lines_of
-    above_of below_of x_of base_of record_of span_fault pass_fault pass_records pages admission result dark config character font1 board_p option board_with
+unfolding digit_of read_from read_digits read_number version_id first extra low_byte high fits_due after_byte well_formed_from well_formed code_of
+    codes_from codes all_latin1 plain_len tag_len rest_len slices is_pair last_byte shape_of lower up_to past_sep holds read_optional optional_version
+    justification read_xy rectangle_of read_rgb rgb_of color_of new_line new_page_tag font_tag justification_line justification_page page_time
+    page_background color_foreground color_background four_of fifth color_rectangle last_four text_rectangle spacing_character hexadecimal_character
+    flash_on flash_off flash_time field point_of graphic_at graphic spacing_character_end flash_end text_of manufacturer_specific
+    manufacturer_specific_end movement movement_parts movement_of moving_text_mode moving_text_linear moving_text end_name first_name name_by name_of
+    tag_value field_tag tag_item text_item item_of little_at body_len kind_of whole_record first_piece rest_len_record cut_from pieces config_of
+    size_ok just_ok not_zero bits_ok tags_ok config_ok is_config characters_of fonts_of has_option past_option past_options config_in member is_font
+    bitmap_len is_character fault_from first_bad fault sign_file items measure_in meter_of board_of lookup character_in is_capital stand_ins widened
+    width_after text_width looked_up step opening events or_else unless due line_gap before_of after_of lines_of above_of below_of x_of base_of
+    record_of span_fault pass_fault pass_records pages admission result dark config character font1 board_p option board_with
 examples = record { text = refl; kinds = refl; page_off = refl; second = refl; last = refl; missed = refl; later_pass = refl; stand_ins_counted = refl }

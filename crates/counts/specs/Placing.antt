@@ -1,6 +1,5 @@
 -- Document 02, A9: "The result carries two counts". The records and the refusals are layout's, "the old way's, span for span".
-use Rattle.std.specs.Prelude.{ℕ, List, [], ◌∷◌, Bool, false, eqb, length, take, drop, sum_by}
-use Rattle.std.proofs.Math.Option.{Option, none, some}
+use Rattle.std.specs.Prelude.{ℕ, List, [], ◌∷◌, Bool, false, eqb, length, take, drop, sum_by, Option, Some, None}
 use Rattle.base.specs.Pick.{pick}
 use Rattle.utf8.specs.Utf8.{codes}
 use Rattle.sign.specs.Sign.{Font, Sign, Accepted, RefusedAt, sign_file}
@@ -28,8 +27,8 @@ capitals_in (RefusedAt at) = false
 -- "the characters that its measures looked up": A2's count of the measure of these code points in a font, if that is defined. They are looked up in
 -- the characters that the measure has, so that a letter for which a capital stands in is one
 abbrev pub looked_in : Bool → List ℕ → Option Font → ℕ
-looked_in capitals l none = 0
-looked_in capitals l (some f) = looked_up (letters_of capitals f.characters) l
+looked_in capitals l None = 0
+looked_in capitals l (Some f) = looked_up (letters_of capitals f.characters) l
 
 -- of the measures of all these records' spans in the sign's fonts, each one measured once
 abbrev pub chars_looked : Sign → List ℕ → List Span → ℕ

@@ -3,46 +3,45 @@ use Prim.Native.Nat.{ℕ, suc}
 use mathlib.Core.Path.{◌≡◌, refl, ap}
 use mathlib.Core.List.{List, [], ◌∷◌, ◌++◌}
 use lib.ListN.{length}
-use Rattle.records.proofs.Laws.{never}
 use Rattle.sign.specs.Sign.{Character}
 use Rattle.font.specs.Character.{character_in}
 use Rattle.font.specs.Measure.{widened, with_width, width_after, text_width, looked_on, looked_up}
 use Rattle.font.specs.Counts.{Counts}
 use Rattle.font.specs.declared.Found.{Found}
-use Rattle.font.specs.declared.Found.TheVariants.{Is, Missing as Absent}
-use Rattle.font.specs.declared.Measure.TheVariants.{Width, Missing}
+use Rattle.font.specs.declared.Missing.{Missing}
+use Rattle.std.specs.Prelude.{Option, Some, None, Ok, Err}
 
 module _ (chs : List Character) (spacing : ℕ) where
   -- after a width so far
-  all_after : (w v : ℕ) (l : List ℕ) → width_after chs spacing w l ≡ Width v → looked_up chs l ≡ length l
+  all_after : (w v : ℕ) (l : List ℕ) → width_after chs spacing w l ≡ Ok v → looked_up chs l ≡ length l
   unfolding width_after looked_up
   all_after w v [] e = refl
   all_after w v (c ∷ l) e = go (character_in c chs) (λ more. all_after (widened w spacing more) v l) e
     where
-      go : (f : Found) → ((more : ℕ) → width_after chs spacing (widened w spacing more) l ≡ Width v → looked_up chs l ≡ length l)
-          → with_width f c (λ more. width_after chs spacing (widened w spacing more) l) ≡ Width v → suc (looked_on f (looked_up chs l)) ≡ suc (length l)
-      go (Is more bitmap) k d = ap suc (k more d)
-      go Absent k d = never (let z : ◌≡◌ {A = ℕ} 0 1 = cc in z)
+      go : (f : Option Found) → ((more : ℕ) → width_after chs spacing (widened w spacing more) l ≡ Ok v → looked_up chs l ≡ length l)
+          → with_width f c (λ more. width_after chs spacing (widened w spacing more) l) ≡ Ok v → suc (looked_on f (looked_up chs l)) ≡ suc (length l)
+      go (Some f) k d = ap suc (k f.width d)
+      go None k d = cc
 
   record UpAfter (w : ℕ) (l : List ℕ) (c : ℕ) : Type 0 where
     earlier : List ℕ
     later : List ℕ
     width : ℕ
     parts : l ≡ earlier ++ (c ∷ later)
-    known : width_after chs spacing w earlier ≡ Width width
-    unknown : character_in c chs ≡ Absent
+    known : width_after chs spacing w earlier ≡ Ok width
+    unknown : character_in c chs ≡ None
     count : looked_up chs l ≡ suc (length earlier)
 
-  up_after : (w c : ℕ) (l : List ℕ) → width_after chs spacing w l ≡ Missing c → UpAfter w l c
+  up_after : (w c : ℕ) (l : List ℕ) → width_after chs spacing w l ≡ Err (record { code = c }) → UpAfter w l c
   unfolding width_after looked_up
-  up_after w c [] e = never (let z : ◌≡◌ {A = ℕ} 0 1 = cc in z)
+  up_after w c [] e = cc
   up_after w c (b ∷ l) e = go (character_in b chs) refl (λ more. up_after (widened w spacing more) c l) e
     where
-      go : (f : Found) → character_in b chs ≡ f
-          → ((more : ℕ) → width_after chs spacing (widened w spacing more) l ≡ Missing c → UpAfter (widened w spacing more) l c)
-          → with_width f b (λ more. width_after chs spacing (widened w spacing more) l) ≡ Missing c → UpAfter w (b ∷ l) c
-      go (Is more bitmap) p k d =
-          let u : UpAfter (widened w spacing more) l c = k more d in
+      go : (f : Option Found) → character_in b chs ≡ f
+          → ((more : ℕ) → width_after chs spacing (widened w spacing more) l ≡ Err (record { code = c }) → UpAfter (widened w spacing more) l c)
+          → with_width f b (λ more. width_after chs spacing (widened w spacing more) l) ≡ Err (record { code = c }) → UpAfter w (b ∷ l) c
+      go (Some f) p k d =
+          let u : UpAfter (widened w spacing f.width) l c = k f.width d in
           record {
             earlier = b ∷ u.earlier;
             later = u.later;
@@ -52,8 +51,9 @@ module _ (chs : List Character) (spacing : ℕ) where
             unknown = u.unknown;
             count = rw p (ap suc u.count);
           }
-      go Absent p k d =
-          let s : b ≡ c = cc in
+      go None p k d =
+          let same : record { code = b } ≡ record { code = c } = cc in
+          let s : b ≡ c = ap (λ (m : Missing). m.code) same in
           record { earlier = []; later = l; width = w; parts = rw s; known = refl; unknown = rw (← s) p; count = rw p }
 
 pub counts : (chs : List Character) (spacing : ℕ) (l : List ℕ) → Counts chs spacing l

@@ -1,187 +1,92 @@
 -- How a table of widths is filled.
-use Prim.Native.Nat.{ℕ, zero, suc, ◌+◌, ◌≤◌, ◌<◌}
-use mathlib.Core.Path.{◌≡◌, refl, sym, ◌∙◌, ap}
-use mathlib.Core.List.{List, [], ◌∷◌}
+use Prim.Native.Nat.{ℕ, zero, suc, ◌<◌}
+use mathlib.Core.Path.{◌≡◌, refl, sym, ◌∙◌}
+use mathlib.Core.List.{List, [], ◌∷◌, map}
 use mathlib.Core.Bool.{Bool, true, false}
 use native.Mathlib.Omega.{arith}
-use lib.Dec.{leb, eqb}
-use lib.ListN.{length, get_or, set, length-set}
+use lib.Dec.{eqb}
+use lib.ListN.{length, get_or, length-set}
 use lib.Seq.{get_or-set_same, get_or-set_other}
-use borrow.Author.Tests.{le-leb, lt-leb, eq-eqb, ne_eqb, eqb-true, eqb-false}
+use borrow.Author.Tests.{ne_eqb, eqb-true, eqb-false}
+use Rattle.std.specs.Prelude.{Option, Some, None}
+use Rattle.std.specs.Option.{option_or}
 use Rattle.base.specs.Pick.{pick}
-use Rattle.records.specs.Record.{pieces_at}
-use Rattle.sign.specs.Sign.{Character, characters_of}
-use Rattle.sign.specs.declared.FontEntry.{FontEntry}
-use Rattle.font.specs.Character.{lookup, character_in, characters_at, character_is, characters_by}
-use Rattle.font.specs.Widths.{in_table, noted, Unfilled, Widths}
-use Rattle.font.specs.declared.Found.TheVariants.{Is}
+use Rattle.sign.specs.Sign.{Character}
+use Rattle.font.specs.Character.{lookup, character_in, letter_of}
+use Rattle.font.specs.Widths.{width_of, filled, Unfilled, Widths}
 use Rattle.font.specs.declared.Letter.{Letter}
-use Rattle.font.specs.declared.Next.{Next}
-use Rattle.font.specs.declared.Next.TheVariants.{Is as Here, End}
-use Rattle.font.proofs.Laws.{rest, rest_all, rest_past, rest_none, rest_more}
 
--- `note`
-module _ (table : List ℕ) (number width : ℕ) where
-  pub note_past : length table ≤ number → table ≡ noted table number width
-  unfolding noted
-  note_past h = rw (le-leb (length table) number h)
+-- a table with one width more, at each code
+module _ (table : List (Option ℕ)) (k : ℕ) (v : Option ℕ) where
+  pub filled_length : length (filled table k v) ≡ length table
+  unfolding filled
+  filled_length = length-set table k (option_or (get_or table k None) v)
 
-  module _ (h : number < length table) where
-    pub note_kept : (get_or table number 0 ≡ 0 → ⊥) → table ≡ noted table number width
-    unfolding noted
-    note_kept e = rw (lt-leb (length table) number h, ne_eqb (get_or table number 0) 0 e)
+  pub filled_same : k < length table → get_or (filled table k v) k None ≡ option_or (get_or table k None) v
+  unfolding filled
+  filled_same h = get_or-set_same table k (option_or (get_or table k None) v) None h
 
-    pub note_new : get_or table number 0 ≡ 0 → (x : ℕ) → x ≡ width → set table number (x + 1) ≡ noted table number width
-    unfolding noted
-    note_new e x d = rw (lt-leb (length table) number h, eq-eqb (get_or table number 0) 0 e, d)
+  pub filled_other : (c : ℕ) → (c ≡ k → ⊥) → get_or (filled table k v) c None ≡ get_or table c None
+  unfolding filled
+  filled_other c n = get_or-set_other table k c (option_or (get_or table k None) v) None n
 
-pub ruleset note_ways = (note_past, note_kept, note_new)
-
--- what stands at a code, else what is to come there
-abbrev pub kept : ℕ → ℕ → ℕ
-kept zero later = later
-kept (suc x) later = suc x
-
-pub kept_some : (x later : ℕ) → (x ≡ 0 → ⊥) → kept x later ≡ x
-kept_some zero later n = absurd (n refl)
-kept_some (suc x) later n = refl
-
-kept_alone : (x : ℕ) → kept x 0 ≡ x
-kept_alone zero = refl
-kept_alone (suc x) = refl
-
--- a table with one character more, at each code
-module _ (table : List ℕ) (k w c : ℕ) (l : c < length table) where
-  noted_own : k ≡ c → get_or (noted table k w) c 0 ≡ kept (get_or table c 0) (w + 1)
-  unfolding noted
-  noted_own e = rw (e, lt-leb (length table) c l) (go (get_or table c 0) refl)
+  filled_at : (c : ℕ) → c < length table → get_or (filled table k v) c None ≡ pick (eqb k c) (option_or (get_or table c None) v) (get_or table c None)
+  filled_at c h = go (eqb k c) refl
     where
-      go : (x : ℕ) → get_or table c 0 ≡ x → get_or (pick (eqb x 0) (set table c (w + 1)) table) c 0 ≡ kept x (w + 1)
-      go zero p = get_or-set_same table c (w + 1) 0 l
-      go (suc x) p = rw (ne_eqb (suc x) 0 (λ q. absurd (omega arith))) p
+      go : (t : Bool) → eqb k c ≡ t → get_or (filled table k v) c None ≡ pick t (option_or (get_or table c None) v) (get_or table c None)
+      go true e =
+          let same : k ≡ c = eqb-true k c e in
+          rw (← same) (filled_same (rw same h))
+      go false e = filled_other c (λ q. eqb-false k c e (sym q))
 
-  noted_other : (c ≡ k → ⊥) → get_or (noted table k w) c 0 ≡ get_or table c 0
-  unfolding noted
-  noted_other n = go (leb (length table) k) (eqb (get_or table k 0) 0)
-    where
-      go : (t u : Bool) → get_or (pick t table (pick u (set table k (w + 1)) table)) c 0 ≡ get_or table c 0
-      go true u = refl
-      go false true = get_or-set_other table k c (w + 1) 0 n
-      go false false = refl
+pub or_none : {A : Type 0} (o : Option A) → option_or o None ≡ o
+or_none (Some x) = refl
+or_none None = refl
 
-  noted_at : get_or (noted table k w) c 0 ≡ pick (eqb k c) (kept (get_or table c 0) (w + 1)) (get_or table c 0)
-  noted_at = go (eqb k c) refl
-    where
-      go : (t : Bool) → eqb k c ≡ t → get_or (noted table k w) c 0 ≡ pick t (kept (get_or table c 0) (w + 1)) (get_or table c 0)
-      go true e = noted_own (eqb-true k c e)
-      go false e = noted_other (λ q. eqb-false k c e (sym q))
+-- the width at a code, of the first letter with it
+abbrev among : ℕ → List Letter → Option ℕ
+among code [] = None
+among code (l ∷ ls) = pick (eqb l.number code) (Some l.width) (among code ls)
 
-pub noted_length : (table : List ℕ) (k w : ℕ) → length (noted table k w) ≡ length table
-unfolding noted
-noted_length table k w = go (leb (length table) k) (eqb (get_or table k 0) 0)
+among_is : (code : ℕ) (chs : List Character) → among code (map letter_of chs) ≡ width_of (lookup code chs)
+unfolding lookup
+among_is code [] = refl
+among_is code (ch ∷ chs) = go (eqb ch.number code) (among_is code chs)
   where
-    go : (t u : Bool) → length (pick t table (pick u (set table k (w + 1)) table)) ≡ length table
-    go true u = refl
-    go false true = length-set table k (w + 1)
-    go false false = refl
+    go : (t : Bool) → among code (map letter_of chs) ≡ width_of (lookup code chs)
+        → pick t (Some ch.width) (among code (map letter_of chs))
+        ≡ width_of (pick t (Some (record { width = ch.width; bitmap = ch.bitmap })) (lookup code chs))
+    go true e = refl
+    go false e = e
 
--- the characters chs of a font are still to be noted
-pub record Noting (all chs : List Character) (table : List ℕ) : Type 0 where
-  pub small : (c : ℕ) → c < length table → get_or table c 0 ≤ 256
-  pub at_code : (c : ℕ) → c < length table → kept (get_or table c 0) (in_table (lookup c chs)) ≡ in_table (character_in c all)
+-- of the characters `all` of a font, the letters ls are still to be put in
+pub record Filling (all : List Character) (ls : List Letter) (table : List (Option ℕ)) : Type 0 where
+  pub at_code : (c : ℕ) → c < length table → option_or (get_or table c None) (among c ls) ≡ width_of (character_in c all)
 
 module _ (all : List Character) where
   -- code 0 is there from the start
-  noting_start : (table : List ℕ) → 0 < length table → ((c : ℕ) → c < length table → get_or table c 0 ≡ 0) → Noting all all (set table 0 1)
+  pub filling_start : (table : List (Option ℕ)) → Unfilled table → Filling all (map letter_of all) (filled table 0 (Some 0))
   unfolding character_in
-  noting_start table h z = record { small = small; at_code = at_code }
+  filling_start table z = record { at_code = λ c h. go c (rw (filled_length table 0 (Some 0)) at h) }
     where
-      first : get_or (set table 0 1) 0 0 ≡ 1
-      first = get_or-set_same table 0 1 0 h
+      go : (c : ℕ) → c < length table → option_or (get_or (filled table 0 (Some 0)) c None) (among c (map letter_of all)) ≡ width_of (character_in c all)
+      go zero h = rw (filled_same table 0 (Some 0) h, z 0)
+      go (suc c) h =
+          let n : suc c ≡ 0 → ⊥ = λ e. absurd (omega arith) in
+          rw (filled_other table 0 (Some 0) (suc c) n, z (suc c), ne_eqb (suc c) 0 n) (among_is (suc c) all)
 
-      other : (c : ℕ) → suc c < length (set table 0 1) → get_or (set table 0 1) (suc c) 0 ≡ 0
-      other c l = get_or-set_other table 0 (suc c) 1 0 (λ e. absurd (omega arith)) ∙ z (suc c) (rw (length-set table 0 1) at l)
-
-      small : (c : ℕ) → c < length (set table 0 1) → get_or (set table 0 1) c 0 ≤ 256
-      small zero l = omega (arith, first)
-      small (suc c) l = omega (arith, other c l)
-
-      at_code : (c : ℕ) → c < length (set table 0 1) → kept (get_or (set table 0 1) c 0) (in_table (lookup c all)) ≡ in_table (character_in c all)
-      at_code zero l = rw first
-      at_code (suc c) l = rw (other c l, ne_eqb (suc c) 0 (λ e. absurd (omega arith)))
-
-  noting_end : (table : List ℕ) → Noting all [] table → Widths all table
-  unfolding lookup
-  noting_end table g = record { small = g.small; at_code = λ c l. sym (kept_alone (get_or table c 0)) ∙ g.at_code c l }
-
-  noting_more : (ch : Character) (chs : List Character) (table : List ℕ) → Noting all (ch ∷ chs) table → ch.width < 256
-      → Noting all chs (noted table ch.number ch.width)
-  unfolding lookup
-  noting_more ch chs table g b = record { small = small; at_code = at_code }
+  pub filling_more : (l : Letter) (ls : List Letter) (table next : List (Option ℕ)) (k : ℕ) → Filling all (l ∷ ls) table → k ≡ l.number
+      → next ≡ filled table k (Some l.width) → Filling all ls next
+  filling_more l ls table next k g d e = record { at_code = λ c h. rw e (at c (rw (e, filled_length table k (Some l.width)) at h)) }
     where
-      k : ℕ
-      k = ch.number
-
-      w : ℕ
-      w = ch.width
-
-      inside : (c : ℕ) → c < length (noted table k w) → c < length table
-      inside c l = rw (noted_length table k w) at l
-
-      small : (c : ℕ) → c < length (noted table k w) → get_or (noted table k w) c 0 ≤ 256
-      small c l = rw (noted_at table k w c (inside c l)) (go (eqb k c) (get_or table c 0) (g.small c (inside c l)))
+      at : (c : ℕ) → c < length table → option_or (get_or (filled table k (Some l.width)) c None) (among c ls) ≡ width_of (character_in c all)
+      at c h = rw (filled_at table k (Some l.width) c h) (go (eqb k c) (get_or table c None) (rw (← d) at (g.at_code c h)))
         where
-          go : (t : Bool) (x : ℕ) → x ≤ 256 → pick t (kept x (w + 1)) x ≤ 256
-          go true zero h = omega arith
-          go true (suc x) h = h
-          go false x h = h
+          go : (t : Bool) (x : Option ℕ) → option_or x (pick t (Some l.width) (among c ls)) ≡ width_of (character_in c all)
+              → option_or (pick t (option_or x (Some l.width)) x) (among c ls) ≡ width_of (character_in c all)
+          go true None p = p
+          go true (Some w) p = p
+          go false x p = p
 
-      at_code : (c : ℕ) → c < length (noted table k w)
-          → kept (get_or (noted table k w) c 0) (in_table (lookup c chs)) ≡ in_table (character_in c all)
-      at_code c l = rw (noted_at table k w c (inside c l)) (go (eqb k c) (get_or table c 0) ∙ g.at_code c (inside c l))
-        where
-          later : ℕ
-          later = in_table (lookup c chs)
-
-          go : (t : Bool) (x : ℕ) → kept (pick t (kept x (w + 1)) x) later ≡ kept x (in_table (pick t (Is w ch.bitmap) (lookup c chs)))
-          go true zero = kept_some (w + 1) later (λ q. absurd (omega arith))
-          go true (suc x) = refl
-          go false x = refl
-
--- `widths`: of count characters from a record on n are noted, the next is at a place, and the table is as long as it was
-pub record Filling (file : List ℕ) (from count : ℕ) (table₀ : List ℕ) (at n : ℕ) (table : List ℕ) : Type 0 where
-  pub same : length table ≡ length table₀
-  pub noting : Noting (rest file from count 0) (rest file at count n) table
-
-pub filled_start : (file : List ℕ) (from count : ℕ) (table : List ℕ) → Unfilled table → Filling file from count (set table 0 1) from 0 (set table 0 1)
-filled_start file from count table h = record { same = refl; noting = noting_start (rest file from count 0) table h.some h.zeros }
-
--- no character is left
-filled : (file : List ℕ) (entry : FontEntry) (at n : ℕ) (table₀ table : List ℕ) → Filling file entry.first entry.characters table₀ at n table
-    → rest file at entry.characters n ≡ [] → Widths (characters_at file entry) table
-unfolding characters_at
-filled file entry at n table₀ table so e =
-    rw (← rest_all file entry.first entry.characters)
-    (noting_end (rest file entry.first entry.characters 0) table (rw e at so.noting))
-
-module _ (file : List ℕ) (entry : FontEntry) (at n : ℕ) (table₀ table : List ℕ)
-    (so : Filling file entry.first entry.characters table₀ at n table) where
-  pub filled_past : entry.characters ≤ n → Widths (characters_at file entry) table
-  filled_past h = filled file entry at n table₀ table so (rest_past file at entry.characters n h)
-
-  pub filled_none : (s : Next) → characters_of (pieces_at file at) ≡ characters_by file s → s ≡ End → Widths (characters_at file entry) table
-  filled_none s p q = filled file entry at n table₀ table so (rest_none file at entry.characters n s p q)
-
-module _ (file : List ℕ) (from count : ℕ) (table₀ : List ℕ) (at n : ℕ) (table : List ℕ) (so : Filling file from count table₀ at n table) where
-  pub filled_on : (s : Next) → characters_of (pieces_at file at) ≡ characters_by file s → (ch : Letter) → s ≡ Here ch → n < count → ch.width < 256
-      → (t : List ℕ) → t ≡ noted table ch.number ch.width → Filling file from count table₀ ch.end (n + 1) t
-  filled_on s p ch q h b t e =
-      record {
-        same = ap length e ∙ noted_length table ch.number ch.width ∙ so.same;
-        noting =
-            rw e
-            (noting_more (rest file from count 0) (character_is ch) (rest file ch.end count (n + 1)) table
-            (rw (rest_more file at count n s p h ch q) at so.noting) b);
-      }
-
-pub ruleset filled_ways = (filled_start, filled_past, filled_none, filled_on)
+  pub filling_end : (table : List (Option ℕ)) → Filling all [] table → Widths all table
+  filling_end table g c h = sym (or_none (get_or table c None)) ∙ g.at_code c h

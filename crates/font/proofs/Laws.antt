@@ -1,128 +1,95 @@
--- The ways on and out of the search for a character, and what holds of one that is found.
+-- The characters of a font, by their records, and what holds of one that is found.
 use Prim.Native.Nat.{ℕ, suc, ◌+◌, ◌-◌, ◌≤◌, ◌<◌}
 use mathlib.Core.Path.{◌≡◌, refl, sym, ◌∙◌, ap}
-use mathlib.Core.List.{List, [], ◌∷◌}
-use mathlib.Core.Bool.{Bool, true, false}
+use mathlib.Core.List.{List, [], ◌∷◌, map}
+use mathlib.Core.Bool.{Bool, true, false, cond}
 use native.Mathlib.Omega.{arith}
 use lib.Dec.{leb, eqb}
 use lib.ListN.{length, get_or, take}
 use lib.Seq.{take-length, take-nil}
 use borrow.Author.Tests.{eq-eqb, ne_eqb, leb-true, leb-false}
+use Rattle.std.specs.Prelude.{Option, Some, None}
+use Rattle.std.specs.Option.{option_map}
+use Rattle.std.specs.List.{find}
 use Rattle.base.specs.Pick.{pick}
 use Rattle.records.specs.Record.{little_at, Record, pieces_at, head_at}
-use Rattle.records.proofs.Laws.{never, head_start, pieces_next, pieces_short, pieces_end, spans}
-use Rattle.records.specs.declared.Head.{Head}
-use Rattle.records.specs.declared.Head.TheVariants.{Whole, Short}
+use Rattle.records.proofs.Laws.{head_start, pieces_next, pieces_short, pieces_end}
+use Rattle.records.specs.declared.Record.{Record as Head}
 use Rattle.sign.specs.Sign.{Character, Font, characters_of, bitmap_len}
 use Rattle.sign.specs.Reading.{part}
 use Rattle.sign.specs.Given.{entry_of}
 use Rattle.sign.specs.Accepted.{Each, each_none, each_more, GoodCharacter, GoodFont}
-use Rattle.font.specs.Character.{lookup, character_in, characters_at, character_is, characters_by}
+use Rattle.font.specs.Character.{found_of, lookup, character_in, characters_at, letter_of, left_of}
+use Rattle.font.specs.declared.Characters.{Characters}
 use Rattle.font.specs.declared.Found.{Found}
-use Rattle.font.specs.declared.Found.TheVariants.{Is, Missing}
 use Rattle.font.specs.declared.Letter.{Letter}
-use Rattle.font.specs.declared.Next.{Next}
-use Rattle.font.specs.declared.Next.TheVariants.{Is as Here, End}
 
-none_short : (file : List ℕ) (at : ℕ) → head_at file at ≡ Short → characters_of (pieces_at file at) ≡ []
-unfolding characters_of
-none_short file at e = go (leb (length file) at) refl
-  where
-    go : (t : Bool) → leb (length file) at ≡ t → characters_of (pieces_at file at) ≡ []
-    go true p = rw (pieces_end file at (leb-true (length file) at p))
-    go false p = rw (pieces_short file at (leb-false (length file) at p) e)
+-- what a reader of characters has left, by the record at its place
+module _ (r : Characters) where
+  none : characters_of (pieces_at r.file.now r.at) ≡ [] → left_of r ≡ []
+  none e = rw (e, take-nil {A = Character} r.left)
 
--- `next_character`: body is what stands in the record
-module _ (file : List ℕ) (at : ℕ) (s : Head) (p : s ≡ head_at file at) where
-  pub next_short : s ≡ Short → characters_of (pieces_at file at) ≡ []
-  next_short q = none_short file at (sym p ∙ q)
+  pub left_short : None ≡ head_at r.file.now r.at → left_of r ≡ []
+  unfolding characters_of
+  left_short e = none (go (leb (length r.file.now) r.at) refl)
+    where
+      go : (t : Bool) → leb (length r.file.now) r.at ≡ t → characters_of (pieces_at r.file.now r.at) ≡ []
+      go true p = rw (pieces_end r.file.now r.at (leb-true (length r.file.now) r.at p))
+      go false p = rw (pieces_short r.file.now r.at (leb-false (length r.file.now) r.at p) (sym e))
 
-  module _ (kind start end : ℕ) (q : s ≡ Whole kind start end) where
+  -- body is what stands in the record
+  module _ (h : Head) (p : Some h ≡ head_at r.file.now r.at) where
     abbrev body : List ℕ
-    body = part file start end
+    body = part r.file.now h.start h.end
 
-    next : pieces_at file at ≡ Record at kind body ∷ pieces_at file end
-    next = pieces_next file at kind start end (sym p ∙ q)
+    next : pieces_at r.file.now r.at ≡ Record r.at h.kind body ∷ pieces_at r.file.now h.end
+    next = pieces_next r.file.now r.at h (sym p)
 
-    pub next_kind : (kind ≡ 3 → ⊥) → characters_of (pieces_at file at) ≡ []
+    pub left_other : (h.kind ≡ 3 → ⊥) → left_of r ≡ []
     unfolding characters_of
-    next_kind k = rw (next, ne_eqb kind 3 k)
+    left_other k = none (rw (next, ne_eqb h.kind 3 k))
 
-    pub next_is : kind ≡ 3 → (x y : ℕ) → x ≡ little_at 2 0 body → y ≡ get_or body 2 0
-        → characters_of (pieces_at file at) ≡ record { number = x; width = y; bitmap = start + 3 } ∷ characters_of (pieces_at file end)
+    pub left_more : h.kind ≡ 3 → (r.left ≡ 0 → ⊥) → (x y : ℕ) → x ≡ little_at 2 0 body → y ≡ get_or body 2 0
+        → left_of r ≡ record { number = x; width = y; bitmap = h.start + 3 } ∷ left_of (record { file = r.file; at = h.end; left = r.left - 1 })
     unfolding characters_of
-    next_is k x y e f =
-        let to : start + 3 ≡ at + 7 = omega (arith, head_start file at kind start end (sym p ∙ q)) in
-        rw (next, eq-eqb kind 3 k, to, e, f)
+    left_more k n x y e f =
+        let some : r.left ≡ suc (r.left - 1) = omega arith in
+        let to : h.start + 3 ≡ r.at + 7 = omega (arith, head_start r.file.now r.at h (sym p)) in
+        ap (λ (n : ℕ). map letter_of (take n (characters_of (pieces_at r.file.now r.at)))) some ∙ rw (next, eq-eqb h.kind 3 k, e, f, to)
 
-pub ruleset next_ways = (spans, next_short, next_kind, next_is)
+-- a character is looked up as it is found among the letters
+abbrev pub letter_found : Letter → Found
+letter_found l = record { width = l.width; bitmap = l.bitmap }
 
--- the characters from a record on, of those of a font that n are past
-abbrev pub rest : List ℕ → ℕ → ℕ → ℕ → List Character
-rest file at count n = take (count - n) (characters_of (pieces_at file at))
+pub lookup_is : (code : ℕ) (chs : List Character)
+    → lookup code chs ≡ option_map letter_found (find (λ (l : Letter). eqb l.number code) (map letter_of chs))
+unfolding lookup
+lookup_is code [] = refl
+lookup_is code (ch ∷ chs) = go (eqb ch.number code) (lookup_is code chs)
+  where
+    found : Option Letter
+    found = find (λ (l : Letter). eqb l.number code) (map letter_of chs)
 
-pub rest_all : (file : List ℕ) (at count : ℕ) → rest file at count 0 ≡ take count (characters_of (pieces_at file at))
-rest_all file at count =
-    let e : count - 0 ≡ count = omega arith in
-    rw e
-
-module _ (file : List ℕ) (at count n : ℕ) where
-  pub rest_past : count ≤ n → rest file at count n ≡ []
-  rest_past h =
-      let e : count - n ≡ 0 = omega arith in
-      rw e
-
-  -- s is what `next_character` answers
-  module _ (s : Next) (p : characters_of (pieces_at file at) ≡ characters_by file s) where
-    pub rest_none : s ≡ End → rest file at count n ≡ []
-    rest_none q = rw (p, q) (take-nil {A = Character} (count - n))
-
-    pub rest_more : n < count → (ch : Letter) → s ≡ Here ch → rest file at count n ≡ character_is ch ∷ rest file ch.end count (n + 1)
-    rest_more h ch q =
-        let more : count - n ≡ suc (count - (n + 1)) = omega arith in
-        rw (more, p, q)
-
--- `find`
-module _ (file : List ℕ) (at count n code : ℕ) (w : Found) (inv : lookup code (rest file at count n) ≡ w) where
-  -- no character is left
-  ended : rest file at count n ≡ [] → Missing ≡ w
-  unfolding lookup
-  ended e = rw e at inv
-
-  pub find_end : count ≤ n → Missing ≡ w
-  find_end h = ended (rest_past file at count n h)
-
-  module _ (h : n < count) (s : Next) (p : characters_of (pieces_at file at) ≡ characters_by file s) where
-    pub find_none : s ≡ End → Missing ≡ w
-    find_none q = ended (rest_none file at count n s p q)
-
-    module _ (ch : Letter) (q : s ≡ Here ch) where
-      here : pick (eqb ch.number code) (Is ch.width ch.bitmap) (lookup code (rest file ch.end count (n + 1))) ≡ w
-      unfolding lookup
-      here = rw (rest_more file at count n s p h ch q) at inv
-
-      pub find_is : ch.number ≡ code → Is ch.width ch.bitmap ≡ w
-      find_is d = rw (eq-eqb ch.number code d) at here
-
-      pub find_on : (ch.number ≡ code → ⊥) → lookup code (rest file ch.end count (n + 1)) ≡ w
-      find_on d = rw (ne_eqb ch.number code d) at here
-
-pub find_start : (file : List ℕ) (at count code : ℕ) → lookup code (rest file at count 0) ≡ lookup code (take count (characters_of (pieces_at file at)))
-find_start file at count code = rw (rest_all file at count)
-
-pub ruleset find_ways = (find_start, find_end, find_none, find_is, find_on)
+    go : (t : Bool) → lookup code chs ≡ option_map letter_found found
+        → pick t (Some (found_of ch)) (lookup code chs) ≡ option_map letter_found (cond t (Some (letter_of ch)) found)
+    go true e = refl
+    go false e = e
 
 -- with code 0
 module _ (code : ℕ) (chs : List Character) where
-  pub code_zero : code ≡ 0 → Is 0 0 ≡ character_in code chs
+  pub code_zero : code ≡ 0 → Some (record { width = 0; bitmap = 0 }) ≡ character_in code chs
   unfolding character_in
   code_zero e = rw (eq-eqb code 0 e)
 
-  pub code_some : (code ≡ 0 → ⊥) → (r : Found) → r ≡ lookup code chs → r ≡ character_in code chs
-  unfolding character_in
-  code_some n r e = rw (ne_eqb code 0 n) e
+  -- s is what is found among the letters
+  module _ (n : code ≡ 0 → ⊥) (s : Option Letter) (e : option_map (λ x. x) s ≡ find (λ (l : Letter). eqb l.number code) (map letter_of chs)) where
+    pub code_none : s ≡ None → None ≡ character_in code chs
+    unfolding character_in
+    code_none q = rw (ne_eqb code 0 n, lookup_is code chs, ← e, q)
 
-pub ruleset code_ways = (code_zero, code_some)
+    pub code_some : (l : Letter) → s ≡ Some l → Some (record { width = l.width; bitmap = l.bitmap }) ≡ character_in code chs
+    unfolding character_in
+    code_some l q = rw (ne_eqb code 0 n, lookup_is code chs, ← e, q)
 
 -- the entry of an accepted file's font stands for the font's characters
 pub entry_stands : (file : List ℕ) (f : Font) → GoodFont file f → characters_at file (entry_of f) ≡ f.characters
@@ -130,30 +97,28 @@ unfolding characters_at
 entry_stands file f g = ap (take (length f.characters)) (sym g.are) ∙ take-length f.characters
 
 -- the bitmap of a character that is found lies within the file
-module _ (file : List ℕ) (height width bitmap : ℕ) where
+module _ (file : List ℕ) (height : ℕ) (found : Found) where
   abbrev Inside : Type 0
-  Inside = (width < 256) × (bitmap + bitmap_len width height ≤ length file)
+  Inside = (found.width < 256) × (found.bitmap + bitmap_len found.width height ≤ length file)
 
-  found_in : (code : ℕ) (chs : List Character) → Each (GoodCharacter file height) chs → lookup code chs ≡ Is width bitmap → Inside
+  found_in : (code : ℕ) (chs : List Character) → Each (GoodCharacter file height) chs → lookup code chs ≡ Some found → Inside
   unfolding lookup
-  found_in code [] each_none e = never (let z : ◌≡◌ {A = ℕ} 0 1 = cc in z)
+  found_in code [] each_none e = cc
   found_in code (ch ∷ chs) (each_more g gs) e = go (eqb ch.number code) (found_in code chs gs) e
     where
-      go : (t : Bool) → (lookup code chs ≡ Is width bitmap → Inside) → pick t (Is ch.width ch.bitmap) (lookup code chs) ≡ Is width bitmap → Inside
+      go : (t : Bool) → (lookup code chs ≡ Some found → Inside) → pick t (Some (found_of ch)) (lookup code chs) ≡ Some found → Inside
       go true k d =
-          let a : ch.width ≡ width = cc in
-          let b : ch.bitmap ≡ bitmap = cc in
-          (rw (← a) g.width_byte, rw (← a, ← b) g.inside)
+          let same : found_of ch ≡ found = cc in
+          rw (← same) (g.width_byte, g.inside)
       go false k d = k d
 
-  pub found_inside : (code : ℕ) (f : Font) → GoodFont file f → f.height ≡ height → character_in code f.characters ≡ Is width bitmap
-      → (width < 256) × (bitmap + bitmap_len width height ≤ length file)
+  pub found_inside : (code : ℕ) (f : Font) → GoodFont file f → f.height ≡ height → character_in code f.characters ≡ Some found
+      → (found.width < 256) × (found.bitmap + bitmap_len found.width height ≤ length file)
   unfolding character_in bitmap_len
   found_inside code f g h e = go (eqb code 0) e
     where
-      go : (t : Bool) → pick t (Is 0 0) (lookup code f.characters) ≡ Is width bitmap → Inside
+      go : (t : Bool) → pick t (Some (record { width = 0; bitmap = 0 })) (lookup code f.characters) ≡ Some found → Inside
       go true d =
-          let a : width ≡ 0 = cc in
-          let b : bitmap ≡ 0 = cc in
-          (omega arith, rw (a, b) (omega arith))
+          let same : record { width = 0; bitmap = 0 } ≡ found = cc in
+          rw (← same) (omega arith, omega arith)
       go false d = found_in code f.characters (rw (← h) g.each) d

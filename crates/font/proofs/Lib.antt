@@ -2,6 +2,5 @@ pub mod Laws
 pub mod Tables
 pub mod Filled
 pub mod StandIns
-pub mod Codes
 pub mod Texts
 pub mod Counts

@@ -1,24 +1,27 @@
 -- Document 01, "Font measure": "`Font::character` gives the font's entry whose number is the code; code 0, which no file can define, counts as
 -- a character of width 0 without lamps".
-use Rattle.std.specs.Prelude.{ℕ, ◌+◌, ◌-◌, ◌≡◌, List, [], ◌∷◌, ◌++◌, Bool, true, false, leb, eqb, take}
+use Rattle.std.specs.Prelude.{ℕ, ◌+◌, ◌-◌, ◌≡◌, List, [], ◌∷◌, ◌++◌, map, Bool, true, false, leb, eqb, take, Option, Some, None}
 use Rattle.base.specs.Pick.{pick}
 use Rattle.records.specs.Record.{all, pieces_at}
 use Rattle.sign.specs.Sign.{Character, characters_of}
 use Rattle.sign.specs.declared.FontEntry.{FontEntry}
 use Rattle.font.specs.declared.Found.{Found}
-use Rattle.font.specs.declared.Found.TheVariants.{Is, Missing}
+use Rattle.font.specs.declared.Characters.{Characters}
+use Rattle.font.specs.declared.FileFont.{FileFont}
 use Rattle.font.specs.declared.Letter.{Letter}
-use Rattle.font.specs.declared.Next.{Next}
-use Rattle.font.specs.declared.Next.TheVariants.{Is as Here, End}
 
--- the character whose number is the code: its width, and where its bitmap starts
-unfoldable pub lookup : ℕ → List Character → Found
-lookup code [] = Missing
-lookup code (ch ∷ chs) = pick (eqb ch.number code) (Is ch.width ch.bitmap) (lookup code chs)
+-- a character's width, and where its bitmap starts
+abbrev pub found_of : Character → Found
+found_of ch = record { width = ch.width; bitmap = ch.bitmap }
+
+-- the character whose number is the code
+unfoldable pub lookup : ℕ → List Character → Option Found
+lookup code [] = None
+lookup code (ch ∷ chs) = pick (eqb ch.number code) (Some (found_of ch)) (lookup code chs)
 
 -- the same, with code 0
-unfoldable pub character_in : ℕ → List Character → Found
-character_in code chs = pick (eqb code 0) (Is 0 0) (lookup code chs)
+unfoldable pub character_in : ℕ → List Character → Option Found
+character_in code chs = pick (eqb code 0) (Some (record { width = 0; bitmap = 0 })) (lookup code chs)
 
 -- Document 02, A4: "lets a missing a to z be looked up as its capital". A to Z are 65 to 90, a to z are 32 above them.
 
@@ -46,9 +49,9 @@ letters_of true chs = chs ++ stand_ins chs
 -- what that comes to, in A4's words
 pub record StandsIn (chs : List Character) : Type 0 where
   -- what the font has is found, its small letters too
-  pub own : (code width bitmap : ℕ) → character_in code chs ≡ Is width bitmap → character_in code (letters_of true chs) ≡ Is width bitmap
+  pub own : (code : ℕ) (f : Found) → character_in code chs ≡ Some f → character_in code (letters_of true chs) ≡ Some f
   -- "a missing a to z" is "looked up as its capital"
-  pub capital : (code : ℕ) → is_small code ≡ true → character_in code chs ≡ Missing → character_in code (letters_of true chs) ≡ character_in (code - 32) chs
+  pub capital : (code : ℕ) → is_small code ≡ true → character_in code chs ≡ None → character_in code (letters_of true chs) ≡ character_in (code - 32) chs
   -- nothing stands in for any other
   pub other : (code : ℕ) → is_small code ≡ false → character_in code (letters_of true chs) ≡ character_in code chs
 
@@ -60,11 +63,17 @@ characters_at file e = take e.characters (characters_of (pieces_at file e.first)
 unfoldable pub letters_at : List ℕ → FontEntry → Bool → List Character
 letters_at file e capitals = letters_of capitals (characters_at file e)
 
--- what a character's record says
-abbrev pub character_is : Letter → Character
-character_is ch = record { number = ch.number; width = ch.width; bitmap = ch.bitmap }
+-- and those of a font of a file as the code has it
+abbrev pub own_letters : FileFont → List Character
+own_letters f = characters_at f.file.now f.entry
 
--- the characters from a record on, by what `next_character` answers at it
-abbrev pub characters_by : List ℕ → Next → List Character
-characters_by file (Here ch) = character_is ch ∷ characters_of (pieces_at file ch.end)
-characters_by file End = []
+abbrev pub letters : FileFont → List Character
+letters f = letters_at f.file.now f.entry f.capitals
+
+-- what a character's record says
+abbrev pub letter_of : Character → Letter
+letter_of ch = record { number = ch.number; width = ch.width; bitmap = ch.bitmap }
+
+-- what the reader of a font's characters has left
+abbrev pub left_of : Characters → List Letter
+left_of r = map letter_of (take r.left (characters_of (pieces_at r.file.now r.at)))

@@ -4,26 +4,23 @@ use native.Mathlib.Nat.{le_refl, zero-mod}
 use native.Mathlib.Omega.{arith}
 use mathlib.Core.Path.{◌≡◌, refl, sym, ap, ◌∙◌}
 use mathlib.Core.Bool.{Bool, true, false, ◌&&◌}
-use Rattle.std.specs.Prelude.{Option, Some, None, Result, Ok, Err}
+use Rattle.std.specs.Prelude.{Option, Some, None, Result, Ok, Err, unwrap_or}
 use mathlib.Core.List.{List, [], ◌∷◌, ◌++◌, map, append_assoc, append-nil}
 use lib.Dec.{leb, ltb, eqb}
 use borrow.Author.Tests.{eqb-true}
 use Rattle.std.proofs.lemmas.Bool.{and_parts}
 use Rattle.base.specs.Pick.{pick}
-use Rattle.value.specs.declared.OptFont.{OptFont}
-use Rattle.value.specs.declared.OptFont.TheVariants.{Some as SomeFont, None as NoFont}
-use Rattle.value.specs.declared.OptNum.{OptNum}
-use Rattle.value.specs.declared.OptNum.TheVariants.{Some as SomeNum, None as NoNum}
+use Rattle.value.specs.declared.SyntaxError.{SyntaxError}
+use Rattle.value.specs.declared.SyntaxError.TheVariants.{UnsupportedTag, UnsupportedTagValue, Other}
 use Rattle.value.specs.declared.Value.{Value}
 use Rattle.value.specs.declared.Value.TheVariants.{ColorBackground, ColorForeground, ColorRectangle, Field, Flash, FlashEnd, Font, Graphic, HexadecimalCharacter, JustificationLine, JustificationPage, ManufacturerSpecific, ManufacturerSpecificEnd, MovingText, NewLine, NewPage, PageBackground, PageTime, SpacingCharacter, SpacingCharacterEnd, Text, TextRectangle}
-use Rattle.reading.specs.declared.Said.{Said}
-use Rattle.reading.specs.declared.Said.TheVariants.{Is, Fails}
+use Rattle.value.specs.Syntax.{number_of}
 use Rattle.refusal.specs.declared.Refusal.{Refusal}
 use Rattle.records.specs.declared.Config.{Config}
 use Rattle.layout.specs.declared.Rect.{Rect}
 use Rattle.layout.specs.declared.RenderState.{RenderState}
 use Rattle.layout.specs.declared.Entry.{Entry}
-use Rattle.layout.specs.Types.{Item, place_of, unwrap_or}
+use Rattle.layout.specs.Types.{Item, place_of}
 use Rattle.layout.specs.Demand.{In, here, there, Role, text, hexadecimal, rectangle, page_just, new_page as page_role, other, role_of, role_in, Reads, rect_after, just_after, printed_by}
 use Rattle.layout.specs.declared.Step.{Step}
 use Rattle.layout.specs.declared.Step.TheVariants.{Go, Emit, Cut, Turn}
@@ -31,6 +28,12 @@ use Rattle.layout.specs.Read.{refusal_at, surrogate, above0, with_just_line, wit
 use Rattle.layout.proofs.PassLaws.{Grid}
 
 -- ---- one item
+
+-- what fails has number 5 or more
+pub number_late : (e : SyntaxError) → 4 < number_of e
+number_late UnsupportedTag = omega arith
+number_late UnsupportedTagValue = omega arith
+number_late Other = omega arith
 
 -- what an item prints, by its value
 abbrev pub printed_of : Role → ℕ → ℕ → List (ℕ × ℕ)
@@ -57,10 +60,9 @@ TextIn a n (page_just j) = Unit {0}
 TextIn a n page_role = Unit {0}
 TextIn a n other = Unit {0}
 
--- and what fails has number 5 or more
-abbrev pub Within : ℕ → ℕ → Said → Type 0
-Within a n (Is v) = TextIn a n (role_of v)
-Within a n (Fails k) = 4 < k
+abbrev pub Within : ℕ → ℕ → Result Value SyntaxError → Type 0
+Within a n (Ok v) = TextIn a n (role_of v)
+Within a n (Err e) = Unit {0}
 
 abbrev pub Honest : List Item → Type 0
 Honest [] = Unit {0}
@@ -112,7 +114,7 @@ StepWithin s st it (Ok Turn) = Taken s st it (new_page s st) [] × (role_in it.s
 
 -- the same with the value apart
 abbrev ValueWithin : Config → RenderState → Item → Value → Result Step Refusal → Type 0
-ValueWithin s st it v t = StepWithin s st (record { start = it.start; len = it.len; says = Is v }) t
+ValueWithin s st it v t = StepWithin s st (record { start = it.start; len = it.len; says = Ok v }) t
 
 pick_all : (P : Result Step Refusal → Type 0) (b : Bool) {x y : Result Step Refusal} → (b ≡ true → P x) → (b ≡ false → P y) → P (pick b x y)
 pick_all P true f g = f refl
@@ -129,11 +131,11 @@ rect_grid s r q =
     let (a, d) = and_parts (fits r.left r.width s.width s.char_width) (fits r.top r.height s.height s.char_height) q in
     record { across = fits_grid r.left r.width s.width s.char_width a; down = fits_grid r.top r.height s.height s.char_height d }
 
-just_given : (j : OptNum) (d n : ℕ) → justified j d ≡ SomeNum n → unwrap_or j d ≡ n
-just_given NoNum d n e = cc
-just_given (SomeNum k) d n e = go (leb 2 k) (leb k 4) e
+just_given : (j : Option ℕ) (d n : ℕ) → justified j d ≡ Some n → unwrap_or j d ≡ n
+just_given None d n e = cc
+just_given (Some k) d n e = go (leb 2 k) (leb k 4) e
   where
-    go : (t u : Bool) → pick t (pick u (SomeNum k) NoNum) NoNum ≡ SomeNum n → k ≡ n
+    go : (t u : Bool) → pick t (pick u (Some k) None) None ≡ Some n → k ≡ n
     go true true q = cc
     go true false q = absurd cc
     go false u q = absurd cc
@@ -146,15 +148,16 @@ module _ (s : Config) (st : RenderState) (blank : Bool) (it : Item) where
   plain : (v : Value) (st' : RenderState) → role_of v ≡ other → st'.rect ≡ st.rect → st'.just_page ≡ st.just_page → ValueWithin s st it v (Ok (Go st' blank))
   plain v st' e r j = (record { reads = tt; prints = rw e; rect = rw e (sym r); just = rw e (sym j) }, r)
 
-  line_just_within : (j o : OptNum) → ValueWithin s st it (JustificationLine j) (go_if (place_of it) o (with_just_line st) blank)
-  line_just_within j NoNum = refused 6 (omega arith)
-  line_just_within j (SomeNum n) = plain (JustificationLine j) (with_just_line st n) refl refl refl
+  line_just_within : (j o : Option ℕ) → ValueWithin s st it (JustificationLine j) (go_if (place_of it) o (with_just_line st) blank)
+  line_just_within j None = refused 6 (omega arith)
+  line_just_within j (Some n) = plain (JustificationLine j) (with_just_line st n) refl refl refl
 
-  page_just_within : (j o : OptNum) → justified j s.page_just ≡ o → ValueWithin s st it (JustificationPage j) (go_if (place_of it) o (with_just_page st) blank)
-  page_just_within j NoNum e = refused 6 (omega arith)
-  page_just_within j (SomeNum n) e = (record { reads = tt; prints = refl; rect = refl; just = just_given j s.page_just n e }, refl)
+  page_just_within : (j o : Option ℕ) → justified j s.page_just ≡ o
+      → ValueWithin s st it (JustificationPage j) (go_if (place_of it) o (with_just_page st) blank)
+  page_just_within j None e = refused 6 (omega arith)
+  page_just_within j (Some n) e = (record { reads = tt; prints = refl; rect = refl; just = just_given j s.page_just n e }, refl)
 
-  line_within : (l : OptNum) (b : Bool) → ValueWithin s st it (NewLine l) (line_step (place_of it) st l b)
+  line_within : (l : Option ℕ) (b : Bool) → ValueWithin s st it (NewLine l) (line_step (place_of it) st l b)
   line_within l true = (
     record { reads = tt; prints = refl; rect = refl; just = refl },
     refl,
@@ -162,9 +165,9 @@ module _ (s : Config) (st : RenderState) (blank : Bool) (it : Item) where
   )
   line_within l false = (record { reads = tt; prints = refl; rect = refl; just = refl }, refl)
 
-  font_within : (f : OptFont) → ValueWithin s st it (Font f) (Ok (Go (font_step s st f) blank))
-  font_within (SomeFont n v) = plain (Font (SomeFont n v)) (with_font st n v) refl refl refl
-  font_within NoFont = plain (Font NoFont) (with_font st s.font NoNum) refl refl refl
+  font_within : (f : Option (ℕ × Option ℕ)) → ValueWithin s st it (Font f) (Ok (Go (font_step s st f) blank))
+  font_within (Some (n, v)) = plain (Font (Some (n, v))) (with_font st n v) refl refl refl
+  font_within None = plain (Font None) (with_font st s.font None) refl refl refl
 
   value_within : (v : Value) → TextIn it.start it.len (role_of v) → ValueWithin s st it v (value_step s st blank (place_of it) v)
   value_within (ColorBackground c) h = plain (ColorBackground c) st refl refl refl
@@ -197,8 +200,8 @@ module _ (s : Config) (st : RenderState) (blank : Bool) (it : Item) where
   value_within (PageTime a b) h = plain (PageTime a b) st refl refl refl
   value_within (SpacingCharacter c) h =
       pick_all (ValueWithin s st it (SpacingCharacter c)) (above0 s.char_width c) (λ _. refused 6 (omega arith))
-      (λ _. plain (SpacingCharacter c) (with_char_spacing st (SomeNum c)) refl refl refl)
-  value_within SpacingCharacterEnd h = plain SpacingCharacterEnd (with_char_spacing st NoNum) refl refl refl
+      (λ _. plain (SpacingCharacter c) (with_char_spacing st (Some c)) refl refl refl)
+  value_within SpacingCharacterEnd h = plain SpacingCharacterEnd (with_char_spacing st None) refl refl refl
   value_within (Text p) h =
       pick_all (ValueWithin s st it (Text p)) (ltb st.span 255)
       (λ _. (record { reads = tt; prints = refl; rect = refl; just = refl }, refl, record { state = refl; start = h.0; len = h.1; spoken = (refl, refl) }))
@@ -207,10 +210,10 @@ module _ (s : Config) (st : RenderState) (blank : Bool) (it : Item) where
       pick_all (ValueWithin s st it (TextRectangle r)) (rect_fits s (rect_of s r)) (λ q. (record { reads = tt; prints = refl; rect = refl; just = refl }, q))
       (λ _. refused 6 (omega arith))
 
-  said_within : (x : Said) → Within it.start it.len x
+  said_within : (x : Result Value SyntaxError) → Within it.start it.len x
       → StepWithin s st (record { start = it.start; len = it.len; says = x }) (item_step s st blank (place_of it) x)
-  said_within (Is v) h = value_within v h
-  said_within (Fails n) h = refused n h
+  said_within (Ok v) h = value_within v h
+  said_within (Err e) h = refused (number_of e) (number_late e)
 
   pub step_within : Within it.start it.len it.says → StepWithin s st it (step s st blank it)
   unfolding step
@@ -246,7 +249,8 @@ module _ (s : Config) (it : Item) (its : List Item) (k : ℕ → ℕ → RenderS
   turn_as a b st acc None f q = rw q (turns f.0 f.1 (hyp _ _ (new_page s st) true []))
   turn_as a b st acc (Some r) f q = rw q (fails f.0 f.1 a b q)
 
-  follow_as : (a b : ℕ) (st : RenderState) (acc : List Entry) (t : Result Step Refusal) → StepWithin s st it t → ReadAs s (it ∷ its) st acc (follow s a b st acc its k t)
+  follow_as : (a b : ℕ) (st : RenderState) (acc : List Entry) (t : Result Step Refusal) → StepWithin s st it t
+      → ReadAs s (it ∷ its) st acc (follow s a b st acc its k t)
   follow_as a b st acc (Err r) f = refuses f
   follow_as a b st acc (Ok (Go st' bl)) f = goes f.0 f.1 (hyp a b st' bl acc)
   follow_as a b st acc (Ok (Emit e st' bl)) f = emits f.0 f.1 f.2 (hyp a b st' bl (acc ++ (e ∷ [])))

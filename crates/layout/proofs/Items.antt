@@ -8,31 +8,31 @@ use mathlib.Core.List.{List, [], ◌∷◌, map}
 use lib.Dec.{leb, eqb}
 use lib.ListN.{length, take, get_or, length-take}
 use borrow.Author.Tests.{eqb-true, eqb-false}
+use Rattle.std.specs.Prelude.{Result, Ok, Err}
 use Rattle.base.specs.Pick.{pick}
 use Rattle.utf8.specs.Utf8.{codes, all_latin1}
 use Rattle.token.specs.declared.Shape.{Shape}
 use Rattle.token.specs.declared.Shape.TheVariants.{Bracket, Tag, Stray, Text as TextShape}
 use Rattle.token.specs.Token.{is_pair, last_byte, slice_len, Slice, cuts, slices, rest_len, shape_of}
+use Rattle.value.specs.declared.SyntaxError.{SyntaxError}
+use Rattle.value.specs.declared.SyntaxError.TheVariants.{UnsupportedTag, Other}
 use Rattle.value.specs.declared.Value.{Value}
 use Rattle.records.specs.declared.Config.{Config}
-use Rattle.tag.specs.declared.Parsed.{Parsed}
-use Rattle.reading.specs.declared.Said.{Said}
-use Rattle.reading.specs.declared.Said.TheVariants.{Is, Fails}
-use Rattle.reading.specs.Reading.{parsed_item, tag_item, text_item, shape_item, item_of}
+use Rattle.reading.specs.Reading.{tag_item, text_item, shape_item, item_of}
 use Rattle.token.proofs.Laws.{slice_le, text_then}
 use Rattle.layout.specs.Types.{Item, item_at, items}
 use Rattle.layout.specs.Demand.{Role, text, hexadecimal, rectangle, page_just, new_page as page_role, other, In, here, there, role_of, role_in, Reads, printed_slice, printed, From, Rises}
 use Rattle.layout.proofs.Cover.{printed_of, printed_items, Within, Honest, item_starts}
-use Rattle.layout.proofs.Tags.{NoText, TagLike, good, unsupported, bad, tag_value_law}
+use Rattle.layout.proofs.Tags.{NoText, NoTextIn, tag_value_law}
 
 -- ---- an item
 
 -- a slice of n bytes at a place: its text starts there, and its value prints what the slice prints
-record Fits (sh : Shape) (a n : ℕ) (x : Said) : Type 0 where
+record Fits (sh : Shape) (a n : ℕ) (x : Result Value SyntaxError) : Type 0 where
   starts : Within a n x
   prints : Reads x → printed_of (role_in x) a n ≡ printed_slice x sh a n
 
-role_fits : (a n : ℕ) (v : Value) (r : Role) → role_of v ≡ r → NoText r → Fits Tag a n (Is v)
+role_fits : (a n : ℕ) (v : Value) (r : Role) → role_of v ≡ r → NoText r → Fits Tag a n (Ok v)
 role_fits a n v (text p) e h = absurd h
 role_fits a n v hexadecimal e h = record { starts = rw e tt; prints = λ _. rw e }
 role_fits a n v (rectangle r) e h = record { starts = rw e tt; prints = λ _. rw e }
@@ -40,33 +40,32 @@ role_fits a n v (page_just j) e h = record { starts = rw e tt; prints = λ _. rw
 role_fits a n v page_role e h = record { starts = rw e tt; prints = λ _. rw e }
 role_fits a n v other e h = record { starts = rw e tt; prints = λ _. rw e }
 
-fails_fits : (sh : Shape) (a n k : ℕ) → 4 < k → Fits sh a n (Fails k)
-fails_fits sh a n k h = record { starts = h; prints = λ f. absurd f }
+fails_fits : (sh : Shape) (a n : ℕ) (e : SyntaxError) → Fits sh a n (Err e)
+fails_fits sh a n e = record { starts = tt; prints = λ f. absurd f }
 
-parsed_fits : (a n : ℕ) {p : Parsed} → TagLike p → Fits Tag a n (parsed_item p)
-parsed_fits a n (good {v = v} h) = role_fits a n v (role_of v) refl h
-parsed_fits a n unsupported = fails_fits Tag a n 5 (omega arith)
-parsed_fits a n bad = fails_fits Tag a n 6 (omega arith)
+parsed_fits : (a n : ℕ) (x : Result Value SyntaxError) → NoTextIn x → Fits Tag a n x
+parsed_fits a n (Ok v) h = role_fits a n v (role_of v) refl h
+parsed_fits a n (Err e) h = fails_fits Tag a n e
 
-pick_fits : (sh : Shape) (a n : ℕ) (t : Bool) {x y : Said} → Fits sh a n x → Fits sh a n y → Fits sh a n (pick t x y)
+pick_fits : (sh : Shape) (a n : ℕ) (t : Bool) {x y : Result Value SyntaxError} → Fits sh a n x → Fits sh a n y → Fits sh a n (pick t x y)
 pick_fits sh a n true p q = p
 pick_fits sh a n false p q = q
 
 module _ (long : Bool) (a : ℕ) (s : List ℕ) (h : 1 ≤ length s) where
   tag_fits : Fits Tag a (length s) (tag_item long a s)
   unfolding tag_item
-  tag_fits = pick_fits Tag a (length s) (leb 2 (length s)) (parsed_fits a (length s) (tag_value_law _ _ _)) (fails_fits Tag a (length s) 5 (omega arith))
+  tag_fits = pick_fits Tag a (length s) (leb 2 (length s)) (parsed_fits a (length s) _ (tag_value_law _ _ _)) (fails_fits Tag a (length s) UnsupportedTag)
 
   text_fits : Fits TextShape a (length s) (text_item a s)
   unfolding text_item
   text_fits =
       pick_fits TextShape a (length s) (all_latin1 (codes s)) (record { starts = (refl, le_refl _); prints = λ _. refl })
-      (fails_fits TextShape a (length s) 7 (omega arith))
+      (fails_fits TextShape a (length s) Other)
 
   shape_fits : (sh : Shape) → Fits sh a (length s) (shape_item long sh a s)
   shape_fits Bracket = record { starts = (refl, h); prints = λ _. refl }
   shape_fits Tag = tag_fits
-  shape_fits Stray = fails_fits Stray a (length s) 5 (omega arith)
+  shape_fits Stray = fails_fits Stray a (length s) UnsupportedTag
   shape_fits TextShape = text_fits
 
   item_fits : Fits (shape_of s) a (length s) (item_of long a s)
@@ -138,13 +137,13 @@ module _ (c : Config) (msg : List ℕ) where
 -- ---- how many items a message has
 
 -- 1 for an item that reads
-abbrev pub okay : Said → ℕ
-okay (Is v) = 1
-okay (Fails n) = 0
+abbrev pub okay : Result Value SyntaxError → ℕ
+okay (Ok v) = 1
+okay (Err e) = 0
 
-pub reads_okay : (x : Said) → Reads x → okay x ≡ 1
-reads_okay (Is v) h = refl
-reads_okay (Fails n) h = absurd h
+pub reads_okay : (x : Result Value SyntaxError) → Reads x → okay x ≡ 1
+reads_okay (Ok v) h = refl
+reads_okay (Err e) h = absurd h
 
 abbrev pub okays : List Item → ℕ
 okays [] = 0
@@ -168,9 +167,9 @@ plain_next : (b : ℕ) (l : List ℕ) → (b ≡ 91 → ⊥) → (b ≡ 93 → �
 unfolding slice_len
 plain_next b l n m h = text_then b l n m (omega arith)
 
-okay_le : (x : Said) → okay x ≤ 1
-okay_le (Is v) = omega arith
-okay_le (Fails n) = omega arith
+okay_le : (x : Result Value SyntaxError) → okay x ≤ 1
+okay_le (Ok v) = omega arith
+okay_le (Err e) = omega arith
 
 -- a bracket alone fails
 lone_open : (long : Bool) (at : ℕ) → okay (item_of long at (91 ∷ [])) ≡ 0

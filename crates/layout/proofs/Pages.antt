@@ -5,8 +5,7 @@ use native.Mathlib.Omega.{arith}
 use mathlib.Core.Path.{◌≡◌, refl, sym, ap, ◌∙◌}
 use mathlib.Core.Logic.{◌⊎◌, inl, inr}
 use mathlib.Core.Bool.{Bool, true, false}
-use mathlib.Core.Option.{Option as Maybe, none, some}
-use Rattle.std.specs.Prelude.{Option, Some, None}
+use Rattle.std.specs.Prelude.{Option, Some, None, Ok, Err}
 use mathlib.Core.List.{List, [], ◌∷◌, ◌++◌, map, append_assoc}
 use lib.Dec.{eqb}
 use Rattle.std.proofs.lemmas.List.{map-append}
@@ -21,8 +20,7 @@ use Rattle.layout.specs.declared.Entry.{Entry}
 use Rattle.layout.specs.declared.Fault.{Fault}
 use Rattle.layout.specs.Types.{Item, item_at, items, Board}
 use Rattle.font.specs.Table.{font_numbered}
-use Rattle.font.specs.declared.Measure.{Measure}
-use Rattle.font.specs.declared.Measure.TheVariants.{Width, Missing}
+use Rattle.font.specs.Measure.{Measure}
 use Rattle.layout.specs.Fonts.{version_fault, missing, width_of, measure_in, char_fault_after, fault_in, width_in, height_in, meter_of, board_of}
 use Rattle.layout.specs.Placing.{keep, select, same, first_fault, fault_at, span_fault, pass_fault, pass_records, record_of}
 use Rattle.layout.specs.declared.Scan.{Scan}
@@ -198,24 +196,24 @@ of_select f (c ∷ l) i = in_kept (f c) c (λ j. of_select f l j) i
 of_select {A = A} f {e = e} [] i = elim i [ ]
 
 -- a span's font is there, and measures its text
-measure_none : (m : Measure) → missing m ≡ None → m ≡ Width (width_of m)
-measure_none (Width w) q = refl
-measure_none (Missing c) q = absurd cc
+measure_none : (m : Measure) → missing m ≡ None → m ≡ Ok (width_of m)
+measure_none (Ok w) q = refl
+measure_none (Err m) q = absurd cc
 
 char_none : (msg : List ℕ) (e : Entry) (capitals : Bool) (f : Font) (x : Option Fault) → char_fault_after msg e capitals x f ≡ None
-    → measure_in msg e capitals f ≡ Width (width_in msg e capitals (some f))
+    → measure_in msg e capitals f ≡ Ok (width_in msg e capitals (Some f))
 char_none msg e capitals f None q = measure_none (measure_in msg e capitals f) q
 char_none msg e capitals f (Some x) q = absurd cc
 
-measured_in : (c : Config) (msg : List ℕ) (fs : List Font) (e : Entry) (q : Span) (o : Maybe Font) → font_numbered e.state.font fs ≡ o
+measured_in : (c : Config) (msg : List ℕ) (fs : List Font) (e : Entry) (q : Span) (o : Option Font) → font_numbered e.state.font fs ≡ o
     → fault_in msg e c.capitals o ≡ None → q.width ≡ width_in msg e c.capitals o → q.height ≡ height_in o → Measured c msg fs e q
 unfolding measure_in
-measured_in c msg fs e q none p f w h = absurd cc
-measured_in c msg fs e q (some f) p g w h =
+measured_in c msg fs e q None p f w h = absurd cc
+measured_in c msg fs e q (Some f) p g w h =
     record {
       font = f;
       found = p;
-      width = char_none msg e c.capitals f (version_fault e.state.version f) g ∙ ap Width (sym w);
+      width = char_none msg e c.capitals f (version_fault e.state.version f) g ∙ ap Ok (sym w);
       height = h;
     }
 
@@ -228,7 +226,7 @@ height_even : (u n : ℕ) (fs : List Font) → ((f : Font) → In f fs → f.hei
 height_even u n [] h = zero-mod u
 height_even u n (f ∷ fs) h = go (eqb f.number n) (height_even u n fs (λ g i. h g (there i)))
   where
-    go : (t : Bool) → height_in (font_numbered n fs) % u ≡ 0 → height_in (pick t (some f) (font_numbered n fs)) % u ≡ 0
+    go : (t : Bool) → height_in (font_numbered n fs) % u ≡ 0 → height_in (pick t (Some f) (font_numbered n fs)) % u ≡ 0
     go true k = h f here
     go false k = k
 

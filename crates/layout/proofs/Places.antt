@@ -3,7 +3,6 @@ use Prim.Native.Nat.{ℕ, zero, suc, ◌+◌, ◌≤◌, ◌<◌}
 use native.Mathlib.Omega.{arith}
 use mathlib.Core.Path.{◌≡◌, refl, sym, ap, ◌∙◌}
 use mathlib.Core.Bool.{Bool, true, false, not}
-use mathlib.Core.Option.{Option as Maybe, none, some}
 use Rattle.std.specs.Prelude.{Option, Some, None, Result, Ok, Err}
 use mathlib.Core.List.{List, [], ◌∷◌, ◌++◌}
 use lib.Dec.{eqb}
@@ -11,13 +10,7 @@ use mathlib.Core.Logic.{◌⊎◌, inl, inr}
 use borrow.Author.Tests.{ne_eqb}
 use lib.ListN.{length}
 use Rattle.base.specs.Pick.{pick}
-use Rattle.value.specs.declared.OptNum.{OptNum}
-use Rattle.value.specs.declared.OptNum.TheVariants.{Some as SomeNum, None as NoNum}
-use Rattle.value.specs.declared.Value.{Value}
-use Rattle.value.specs.declared.Value.TheVariants.{ColorBackground, ColorForeground, ColorRectangle, Field, Flash, FlashEnd, Font as SetFont, Graphic, HexadecimalCharacter, JustificationLine, JustificationPage, ManufacturerSpecific, ManufacturerSpecificEnd, MovingText, NewLine, NewPage, PageBackground, PageTime, SpacingCharacter, SpacingCharacterEnd, Text, TextRectangle}
-use Rattle.value.specs.Tag.{tag_of, has_tag}
-use Rattle.reading.specs.declared.Said.{Said}
-use Rattle.reading.specs.declared.Said.TheVariants.{Is, Fails}
+use Rattle.value.specs.declared.SyntaxError.{SyntaxError}
 use Rattle.records.specs.declared.Config.{Config}
 use Rattle.sign.specs.Sign.{Font, RefusedAt, sign_file}
 use Rattle.admit.specs.Admission.{Admission, denied, admitted, admission}
@@ -36,13 +29,12 @@ use Rattle.layout.specs.declared.Scan.{Scan}
 use Rattle.layout.specs.Types.{Item, items, Board}
 use Rattle.refusal.specs.Refusals.{refusal}
 use Rattle.font.specs.Table.{font_numbered}
-use Rattle.font.specs.declared.Measure.{Measure}
-use Rattle.font.specs.declared.Measure.TheVariants.{Width, Missing}
+use Rattle.font.specs.Measure.{Measure}
 use Rattle.layout.specs.Fonts.{fault, version_fault, missing, measure_in, font_fault_in, char_fault_after, fault_in, meter_of, board_of}
 use Rattle.layout.specs.Placing.{or_else, unless, first_fault, group, page, fault_at, span_fault, goes_back, back_fault, pass_fault, pass_records}
-use Rattle.layout.specs.Read.{tagged, mark_item, scan_by, scan, Event, pass, close, stop, opening, events}
+use Rattle.layout.specs.Read.{mark_item, scan_by, scan, Event, pass, close, stop, opening, events}
 use Rattle.layout.specs.Listing.{Page, on, off, refused, stop_at, offs, pass_stop, walk, pages, numbered, result_on, listing}
-use Rattle.layout.proofs.Cover.{Within, ReadAs, ends, refuses, goes, emits, cuts, turns, fails, EventsAs, refused_at_once, begun, events_as, Honest}
+use Rattle.layout.proofs.Cover.{number_late, ReadAs, ends, refuses, goes, emits, cuts, turns, fails, EventsAs, refused_at_once, begun, events_as}
 use Rattle.layout.proofs.Checks.{admitted_result, answer_on}
 use Rattle.layout.proofs.SignPlace.{sign_start}
 use Rattle.layout.proofs.Items.{AllIn, items_honest, items_in}
@@ -67,31 +59,31 @@ first_fault_law f h (a ∷ l) = or_fault (h a) (first_fault_law f h l)
 abbrev Late : Option Fault → Type 0
 Late = Holds (λ x. 4 < x.number)
 
-version_late : (o : OptNum) (f : Font) → Late (version_fault o f)
-version_late NoNum f = fine
-version_late (SomeNum v) f = go (eqb v f.version)
+version_late : (o : Option ℕ) (f : Font) → Late (version_fault o f)
+version_late None f = fine
+version_late (Some v) f = go (eqb v f.version)
   where
     go : (t : Bool) → Late (pick t None (Some (fault 11 0)))
     go true = fine
     go false = faulty {x = fault 11 0} (omega arith)
 
 missing_late : (m : Measure) → Late (missing m)
-missing_late (Width w) = fine
-missing_late (Missing c) = faulty {x = fault 12 c} (omega arith)
+missing_late (Ok w) = fine
+missing_late (Err m) = faulty {x = fault 12 m.code} (omega arith)
 
 module _ (msg : List ℕ) (e : Entry) where
-  font_late : (o : Maybe Font) → Late (font_fault_in msg e o)
-  font_late none = faulty {x = fault 10 e.state.font} (omega arith)
-  font_late (some f) = version_late e.state.version f
+  font_late : (o : Option Font) → Late (font_fault_in msg e o)
+  font_late None = faulty {x = fault 10 e.state.font} (omega arith)
+  font_late (Some f) = version_late e.state.version f
 
   module _ (capitals : Bool) where
     char_late : (x : Option Fault) (f : Font) → Late x → Late (char_fault_after msg e capitals x f)
     char_late None f h = missing_late (measure_in msg e capitals f)
     char_late (Some x) f h = h
 
-    fault_late : (o : Maybe Font) → Late (fault_in msg e capitals o)
-    fault_late none = faulty {x = fault 10 e.state.font} (omega arith)
-    fault_late (some f) = char_late (version_fault e.state.version f) f (version_late e.state.version f)
+    fault_late : (o : Option Font) → Late (fault_in msg e capitals o)
+    fault_late None = faulty {x = fault 10 e.state.font} (omega arith)
+    fault_late (Some f) = char_late (version_fault e.state.version f) f (version_late e.state.version f)
 
 -- of every span
 record LateFaults (s : Board) : Type 0 where
@@ -105,43 +97,6 @@ board_late msg c fs =
       fault = λ e. fault_late msg e c.capitals (font_numbered e.state.font fs);
       font = λ e. font_late msg e (font_numbered e.state.font fs);
     }
-
--- a slice that is wrong has number 5 or more
-abbrev LateMark : Result Mark ℕ → Type 0
-LateMark (Ok m) = Unit {0}
-LateMark (Err n) = 4 < n
-
-tagged_late : (tags : ℕ) (v : Value) (m : Mark) → LateMark (tagged tags v m)
-tagged_late tags v m = go (has_tag tags (tag_of v))
-  where
-    go : (t : Bool) → LateMark (pick t (Ok m) (Err 5))
-    go true = tt
-    go false = omega arith
-
-mark_late : (tags a n : ℕ) (x : Said) → Within a n x → LateMark (mark_item tags x)
-mark_late tags a n (Is (ColorBackground c)) h = tagged_late tags (ColorBackground c) Plain
-mark_late tags a n (Is (ColorForeground c)) h = tagged_late tags (ColorForeground c) Plain
-mark_late tags a n (Is (ColorRectangle r c)) h = tagged_late tags (ColorRectangle r c) Plain
-mark_late tags a n (Is (Field k w)) h = tagged_late tags (Field k w) Plain
-mark_late tags a n (Is (Flash o p q)) h = tagged_late tags (Flash o p q) Plain
-mark_late tags a n (Is FlashEnd) h = tagged_late tags FlashEnd Plain
-mark_late tags a n (Is (SetFont f)) h = tagged_late tags (SetFont f) Plain
-mark_late tags a n (Is (Graphic k p)) h = tagged_late tags (Graphic k p) Plain
-mark_late tags a n (Is (HexadecimalCharacter c)) h = tagged_late tags (HexadecimalCharacter c) Plain
-mark_late tags a n (Is (JustificationLine j)) h = tagged_late tags (JustificationLine j) Plain
-mark_late tags a n (Is (JustificationPage j)) h = tagged_late tags (JustificationPage j) Plain
-mark_late tags a n (Is (ManufacturerSpecific m p)) h = tagged_late tags (ManufacturerSpecific m p) Plain
-mark_late tags a n (Is (ManufacturerSpecificEnd m p)) h = tagged_late tags (ManufacturerSpecificEnd m p) Plain
-mark_late tags a n (Is (MovingText m d t)) h = tagged_late tags (MovingText m d t) Plain
-mark_late tags a n (Is (NewLine l)) h = tagged_late tags (NewLine l) Plain
-mark_late tags a n (Is NewPage) h = tagged_late tags NewPage Ends
-mark_late tags a n (Is (PageBackground c)) h = tagged_late tags (PageBackground c) Plain
-mark_late tags a n (Is (PageTime p q)) h = tagged_late tags (PageTime p q) (Timed p q)
-mark_late tags a n (Is (SpacingCharacter c)) h = tagged_late tags (SpacingCharacter c) Plain
-mark_late tags a n (Is SpacingCharacterEnd) h = tagged_late tags SpacingCharacterEnd Plain
-mark_late tags a n (Is (Text p)) h = tt
-mark_late tags a n (Is (TextRectangle r)) h = tagged_late tags (TextRectangle r) Plain
-mark_late tags a n (Fails k) h = h
 
 -- top: the message's length
 module _ (top : ℕ) where
@@ -165,7 +120,8 @@ module _ (top : ℕ) where
   back_fault_law : (p : Option Entry) (es : List Entry) → Spans es → Holds Inside (back_fault p es)
   back_fault_law p [] h = fine
   back_fault_law None (e ∷ es) h = back_fault_law (Some e) es h.1
-  back_fault_law (Some p) (e ∷ es) h = or_fault (unless_fault (not (goes_back p e)) _ (record { late = omega arith; place = h.0 })) (back_fault_law (Some e) es h.1)
+  back_fault_law (Some p) (e ∷ es) h =
+      or_fault (unless_fault (not (goes_back p e)) _ (record { late = omega arith; place = h.0 })) (back_fault_law (Some e) es h.1)
 
   module _ (s : Board) (b : LateFaults s) (r : Rect) (all : List Entry) where
     at_fault : (e : Entry) (x : Option Fault) → e.start + e.len ≤ top → Late x → Holds Inside (fault_at s r all e x)
@@ -193,18 +149,17 @@ module _ (top : ℕ) where
 
   -- ---- a page's scan
 
-  scan_by_law : (s : Config) (a b : ℕ) (it : Item) (m : Result Mark ℕ) (next : ℕ → ℕ → Scan) → LateMark m → it.start + it.len ≤ top
+  scan_by_law : (s : Config) (a b : ℕ) (it : Item) (m : Result Mark SyntaxError) (next : ℕ → ℕ → Scan) → it.start + it.len ≤ top
       → ((p q : ℕ) → Holds Inside (next p q).fault) → Holds Inside (scan_by s a b it m next).fault
-  scan_by_law s a b it (Ok Plain) next l h k = k a b
-  scan_by_law s a b it (Ok Ends) next l h k = fine
-  scan_by_law s a b it (Ok (Timed p q)) next l h k = k _ _
-  scan_by_law s a b it (Err n) next l h k = faulty (record { late = l; place = h })
+  scan_by_law s a b it (Ok Plain) next h k = k a b
+  scan_by_law s a b it (Ok Ends) next h k = fine
+  scan_by_law s a b it (Ok (Timed p q)) next h k = k _ _
+  scan_by_law s a b it (Err e) next h k = faulty (record { late = number_late e; place = h })
 
-  scan_fault : (s : Config) (a b : ℕ) (its : List Item) → Honest its → AllIn top its → Holds Inside (scan s a b its).fault
-  scan_fault s a b [] o h = fine
-  scan_fault s a b (it ∷ its) o h =
-      scan_by_law s a b it (mark_item s.tags it.says) (λ p q. scan s p q its) (mark_late s.tags it.start it.len it.says o.0) h.0
-      (λ p q. scan_fault s p q its o.1 h.1)
+  scan_fault : (s : Config) (a b : ℕ) (its : List Item) → AllIn top its → Holds Inside (scan s a b its).fault
+  scan_fault s a b [] h = fine
+  scan_fault s a b (it ∷ its) h =
+      scan_by_law s a b it (mark_item s.tags it.says) (λ p q. scan s p q its) h.0 (λ p q. scan_fault s p q its h.1)
 
   -- ---- the events of a message
 
@@ -218,26 +173,26 @@ module _ (top : ℕ) where
   snoc_spans [] e h p = (p, tt)
   snoc_spans (x ∷ es) e h p = (h.0, snoc_spans es e h.1 p)
 
-  scan_stop : (s : Config) (its : List Item) (a b : ℕ) (r : Refusal) → Honest its → AllIn top its → (scan s a b its).fault ≡ Some r → Inside r
-  scan_stop s its a b r o h e = look (rw e at (scan_fault s a b its o h))
+  scan_stop : (s : Config) (its : List Item) (a b : ℕ) (r : Refusal) → AllIn top its → (scan s a b its).fault ≡ Some r → Inside r
+  scan_stop s its a b r h e = look (rw e at (scan_fault s a b its h))
     where
       look : Holds Inside (Some r) → Inside r
       look (faulty i) = i
 
   -- what is read lies within the message
-  pub read_in : {s : Config} {its : List Item} {st : RenderState} {acc : List Entry} {l : List Event} → ReadAs s its st acc l → Honest its
-      → AllIn top its → Spans acc → Events l
-  read_in ends o h u = (u, tt)
-  read_in (refuses f) o h u = (record { late = f.late; place = omega (arith, f.start, f.length) }, tt)
-  read_in (goes f q r) o h u = read_in r o.1 h.1 u
-  read_in (emits {acc = acc} {e = e} f q p r) o h u = read_in r o.1 h.1 (snoc_spans acc e u (omega (arith, p.start, p.len)))
-  read_in (cuts f q r) o h u = (u, read_in r o.1 h.1 tt)
-  read_in (turns f q r) o h u = (u, read_in r o.1 h.1 tt)
-  read_in {s = s} (fails {its = its} {r = r} f q x y e) o h u = (u, (scan_stop s its x y r o.1 h.1 e, tt))
+  pub read_in : {s : Config} {its : List Item} {st : RenderState} {acc : List Entry} {l : List Event} → ReadAs s its st acc l → AllIn top its
+      → Spans acc → Events l
+  read_in ends h u = (u, tt)
+  read_in (refuses f) h u = (record { late = f.late; place = omega (arith, f.start, f.length) }, tt)
+  read_in (goes f q r) h u = read_in r h.1 u
+  read_in (emits {acc = acc} {e = e} f q p r) h u = read_in r h.1 (snoc_spans acc e u (omega (arith, p.start, p.len)))
+  read_in (cuts f q r) h u = (u, read_in r h.1 tt)
+  read_in (turns f q r) h u = (u, read_in r h.1 tt)
+  read_in {s = s} (fails {its = its} {r = r} f q x y e) h u = (u, (scan_stop s its x y r h.1 e, tt))
 
-  pub events_in : {s : Config} {its : List Item} {l : List Event} → EventsAs s its l → Honest its → AllIn top its → Events l
-  events_in {s = s} {its = its} (refused_at_once {r = r} a b e) o h = (scan_stop s its a b r o h e, tt)
-  events_in (begun r) o h = read_in r o h tt
+  pub events_in : {s : Config} {its : List Item} {l : List Event} → EventsAs s its l → AllIn top its → Events l
+  events_in {s = s} {its = its} (refused_at_once {r = r} a b e) h = (scan_stop s its a b r h e, tt)
+  events_in (begun r) h = read_in r h tt
 
   -- ---- the pages
 
@@ -283,9 +238,8 @@ pages_in : (msg : List ℕ) (s : Board) → LateFaults s → Pages (length msg) 
 unfolding pages
 pages_in msg s m =
     let o : Scan = opening s.config (items s.config msg) in
-    let h : Honest (items s.config msg) = items_honest s.config msg in
     walk_in (length msg) s m (events s.config (items s.config msg)) o.on o.off [] 0
-    (events_in (length msg) (events_as s.config (items s.config msg) h) h (items_in s.config msg))
+    (events_in (length msg) (events_as s.config (items s.config msg) (items_honest s.config msg)) (items_in s.config msg))
 
 answers_in_law : (c : Config) (fs : List Font) (msg : List ℕ) (n : ℕ) → Placed (length msg) (numbered 0 (pages (board_of msg c fs) (items c msg)) n).answer
 unfolding board_of

@@ -1,17 +1,14 @@
 -- Demand 3 (quoted in docs/DEMANDS.md), with document 01, "What demand 3 compares": what holds of a whole listing that no refusal ends.
-use Rattle.std.specs.Prelude.{ℕ, zero, suc, ◌+◌, ◌≤◌, ◌<◌, ◌%◌, ◌≡◌, ◌⊎◌, List, [], ◌∷◌, ◌++◌, map, leb, length, take}
-use Rattle.std.proofs.Math.Option.{some}
+use Rattle.std.specs.Prelude.{ℕ, zero, suc, ◌+◌, ◌≤◌, ◌<◌, ◌%◌, ◌≡◌, ◌⊎◌, List, [], ◌∷◌, ◌++◌, map, leb, length, take, Option, Some, Result, Ok, Err, unwrap_or}
 use Rattle.base.specs.Pick.{pick}
 use Rattle.token.specs.declared.Shape.{Shape}
 use Rattle.token.specs.declared.Shape.TheVariants.{Bracket, Tag, Stray, Text as TextShape}
 use Rattle.token.specs.Token.{Slice, shape_of, slices}
-use Rattle.value.specs.declared.OptNum.{OptNum}
 use Rattle.value.specs.declared.Place.{Place}
 use Rattle.value.specs.declared.Rectangle.{Rectangle}
+use Rattle.value.specs.declared.SyntaxError.{SyntaxError}
 use Rattle.value.specs.declared.Value.{Value}
 use Rattle.value.specs.declared.Value.TheVariants.{ColorBackground, ColorForeground, ColorRectangle, Field, Flash, FlashEnd, Font, Graphic, HexadecimalCharacter, JustificationLine, JustificationPage, ManufacturerSpecific, ManufacturerSpecificEnd, MovingText, NewLine, NewPage, PageBackground, PageTime, SpacingCharacter, SpacingCharacterEnd, Text, TextRectangle}
-use Rattle.reading.specs.declared.Said.{Said}
-use Rattle.reading.specs.declared.Said.TheVariants.{Is, Fails}
 use Rattle.records.specs.declared.Config.{Config}
 use Rattle.sign.specs.Sign.{Font as SignFont, Accepted, sign_file}
 use Rattle.layout.specs.declared.Span.{Span}
@@ -19,8 +16,7 @@ use Rattle.layout.specs.declared.Answer.{Answer}
 use Rattle.layout.specs.declared.Answer.TheVariants.{On, Off, End, Refused}
 use Rattle.layout.specs.declared.Rect.{Rect}
 use Rattle.layout.specs.declared.Entry.{Entry}
-use Rattle.layout.specs.Types.{Item, item_at, items, unwrap_or, Board}
-use Rattle.font.specs.declared.Measure.TheVariants.{Width}
+use Rattle.layout.specs.Types.{Item, item_at, items, Board}
 use Rattle.font.specs.Table.{font_numbered}
 use Rattle.font.specs.Character.{letters_of}
 use Rattle.font.specs.Measure.{text_width}
@@ -84,7 +80,7 @@ pub data Role : Type 0 where
   text : Place → Role
   hexadecimal : Role
   rectangle : Rectangle → Role
-  page_just : OptNum → Role
+  page_just : Option ℕ → Role
   new_page : Role
   other : Role
 
@@ -112,14 +108,14 @@ role_of SpacingCharacterEnd = other
 role_of (Text p) = text p
 role_of (TextRectangle r) = rectangle r
 
-abbrev pub role_in : Said → Role
-role_in (Is v) = role_of v
-role_in (Fails n) = other
+abbrev pub role_in : Result Value SyntaxError → Role
+role_in (Ok v) = role_of v
+role_in (Err e) = other
 
 -- a slice reads: it has a value
-abbrev pub Reads : Said → Type 0
-Reads (Is v) = Unit {0}
-Reads (Fails n) = ⊥
+abbrev pub Reads : Result Value SyntaxError → Type 0
+Reads (Ok v) = Unit {0}
+Reads (Err e) = ⊥
 
 -- a tag prints if it is [hc]
 abbrev pub printed_tag : Role → ℕ → ℕ → List (ℕ × ℕ)
@@ -131,7 +127,7 @@ printed_tag new_page start len = []
 printed_tag other start len = []
 
 -- start and length of what a slice prints, by its shape: "the message's text slices and [hc] tags (length 1 for [[ and ]])"
-abbrev pub printed_slice : Said → Shape → ℕ → ℕ → List (ℕ × ℕ)
+abbrev pub printed_slice : Result Value SyntaxError → Shape → ℕ → ℕ → List (ℕ × ℕ)
 printed_slice x Bracket start len = (start, 1) ∷ []
 printed_slice x Tag start len = printed_tag (role_in x) start len
 printed_slice x Stray start len = []
@@ -215,9 +211,9 @@ pub record Tells (r : Rect) (e : Entry) (q : Span) : Type 0 where
 -- capitals that stand in for them (document 02, A4)
 pub record Measured (c : Config) (msg : List ℕ) (fs : List SignFont) (e : Entry) (q : Span) : Type 0 where
   pub font : SignFont
-  pub found : font_numbered e.state.font fs ≡ some font
+  pub found : font_numbered e.state.font fs ≡ Some font
   pub width : text_width (letters_of c.capitals font.characters) (unwrap_or e.state.char_spacing font.char_spacing) (chars_of msg e)
-      ≡ Width q.width
+      ≡ Ok q.width
   pub height : q.height ≡ font.height
 
 -- "the character height is 0 or divides every font height"

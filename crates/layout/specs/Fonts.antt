@@ -1,29 +1,24 @@
 -- Document 01, "Font measure", and refusals 10 to 12: what the fonts of a sign file say of a span.
-use Rattle.std.specs.Prelude.{ℕ, List, [], ◌∷◌, Bool, eqb, take, drop, Option, Some, None}
-use Rattle.std.proofs.Math.Option.{Option as Maybe, none, some}
+use Rattle.std.specs.Prelude.{ℕ, List, [], ◌∷◌, Bool, eqb, take, drop, Option, Some, None, unwrap_or, Ok, Err}
 use Rattle.base.specs.Pick.{pick}
 use Rattle.records.specs.declared.Config.{Config}
 use Rattle.sign.specs.Sign.{Font}
 use Rattle.font.specs.Table.{font_numbered}
 use Rattle.font.specs.Character.{letters_of}
-use Rattle.font.specs.declared.Measure.{Measure}
-use Rattle.font.specs.declared.Measure.TheVariants.{Width, Missing}
-use Rattle.font.specs.Measure.{text_width}
+use Rattle.font.specs.Measure.{Measure, text_width}
 use Rattle.utf8.specs.Utf8.{codes}
-use Rattle.value.specs.declared.OptNum.{OptNum}
-use Rattle.value.specs.declared.OptNum.TheVariants.{Some as SomeNum, None as NoNum}
 use Rattle.layout.specs.declared.Entry.{Entry}
 use Rattle.layout.specs.declared.Fault.{Fault}
-use Rattle.layout.specs.Types.{unwrap_or, Meter, Board}
+use Rattle.layout.specs.Types.{Meter, Board}
 
 -- a number, with its detail
 abbrev pub fault : ℕ → ℕ → Fault
 fault n d = record { number = n; detail = d }
 
 -- 11: "Font version id differs", where the state has one
-abbrev pub version_fault : OptNum → Font → Option Fault
-version_fault NoNum f = None
-version_fault (SomeNum v) f = pick (eqb v f.version) None (Some (fault 11 0))
+abbrev pub version_fault : Option ℕ → Font → Option Fault
+version_fault None f = None
+version_fault (Some v) f = pick (eqb v f.version) None (Some (fault 11 0))
 
 -- the code points that a span prints: of kind 0 those of its text, of kind 1 its code, of kind 2 none
 abbrev pub chars_of : List ℕ → Entry → List ℕ
@@ -31,49 +26,49 @@ chars_of msg e = pick (eqb e.kind 0) (codes (take e.len (drop e.start msg))) (pi
 
 -- 12: "Character not defined; detail its code"
 abbrev pub missing : Measure → Option Fault
-missing (Width w) = None
-missing (Missing c) = Some (fault 12 c)
+missing (Ok w) = None
+missing (Err m) = Some (fault 12 m.code)
 
 abbrev pub width_of : Measure → ℕ
-width_of (Width w) = w
-width_of (Missing c) = 0
+width_of (Ok w) = w
+width_of (Err m) = 0
 
 -- a span in its font, if that is defined; capitals: they stand in for missing small letters (document 02, A4)
 module _ (msg : List ℕ) (e : Entry) where
   -- 10: "Font not defined; detail its number"
-  abbrev pub font_fault_in : Maybe Font → Option Fault
-  font_fault_in none = Some (fault 10 e.state.font)
-  font_fault_in (some f) = version_fault e.state.version f
+  abbrev pub font_fault_in : Option Font → Option Fault
+  font_fault_in None = Some (fault 10 e.state.font)
+  font_fault_in (Some f) = version_fault e.state.version f
 
   -- "a span's spacing is its [sc] value, or its font's where none holds"
-  abbrev pub spacing_in : Maybe Font → ℕ
-  spacing_in none = unwrap_or e.state.char_spacing 0
-  spacing_in (some f) = unwrap_or e.state.char_spacing f.char_spacing
+  abbrev pub spacing_in : Option Font → ℕ
+  spacing_in None = unwrap_or e.state.char_spacing 0
+  spacing_in (Some f) = unwrap_or e.state.char_spacing f.char_spacing
 
   -- "Font measure", of what the span prints: "Measuring, placing and painting follow the character found"
   unfoldable pub measure_in : Bool → Font → Measure
-  measure_in capitals f = text_width (letters_of capitals f.characters) (spacing_in (some f)) (chars_of msg e)
+  measure_in capitals f = text_width (letters_of capitals f.characters) (spacing_in (Some f)) (chars_of msg e)
 
   -- 10, 11, then 12
   abbrev pub char_fault_after : Bool → Option Fault → Font → Option Fault
   char_fault_after capitals None f = missing (measure_in capitals f)
   char_fault_after capitals (Some r) f = Some r
 
-  abbrev pub fault_in : Bool → Maybe Font → Option Fault
-  fault_in capitals none = Some (fault 10 e.state.font)
-  fault_in capitals (some f) = char_fault_after capitals (version_fault e.state.version f) f
+  abbrev pub fault_in : Bool → Option Font → Option Fault
+  fault_in capitals None = Some (fault 10 e.state.font)
+  fault_in capitals (Some f) = char_fault_after capitals (version_fault e.state.version f) f
 
-  abbrev pub width_in : Bool → Maybe Font → ℕ
-  width_in capitals none = 0
-  width_in capitals (some f) = width_of (measure_in capitals f)
+  abbrev pub width_in : Bool → Option Font → ℕ
+  width_in capitals None = 0
+  width_in capitals (Some f) = width_of (measure_in capitals f)
 
-abbrev pub height_in : Maybe Font → ℕ
-height_in none = 0
-height_in (some f) = f.height
+abbrev pub height_in : Option Font → ℕ
+height_in None = 0
+height_in (Some f) = f.height
 
-abbrev pub line_spacing_in : Maybe Font → ℕ
-line_spacing_in none = 0
-line_spacing_in (some f) = f.line_spacing
+abbrev pub line_spacing_in : Option Font → ℕ
+line_spacing_in None = 0
+line_spacing_in (Some f) = f.line_spacing
 
 unfoldable pub meter_of : List ℕ → Bool → List Font → Meter
 meter_of msg capitals fs =

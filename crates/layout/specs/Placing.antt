@@ -1,14 +1,13 @@
 -- Document 01, "Placing": where the spans of one pass stand, and which of refusals 9 to 14 they meet.
-use Rattle.std.specs.Prelude.{ℕ, zero, suc, ◌+◌, ◌-◌, ◌*◌, ◌/◌, max, Bool, true, false, not, ◌&&◌, ◌||◌, List, [], ◌∷◌, map, leb, ltb, eqb, Option, Some, None}
+use Rattle.std.specs.Prelude.{ℕ, zero, suc, ◌+◌, ◌-◌, ◌*◌, ◌/◌, max, Bool, true, false, not, ◌&&◌, ◌||◌, List, [], ◌∷◌, map, leb, ltb, eqb, Option, Some, None, unwrap_or}
+use Rattle.std.specs.Option.{option_or}
 use Rattle.base.specs.Pick.{pick}
 use Rattle.refusal.specs.declared.Refusal.{Refusal}
 use Rattle.layout.specs.declared.Span.{Span}
-use Rattle.value.specs.declared.OptNum.{OptNum}
-use Rattle.value.specs.declared.OptNum.TheVariants.{Some as SomeNum, None as NoNum}
 use Rattle.layout.specs.declared.Rect.{Rect}
 use Rattle.layout.specs.declared.Entry.{Entry}
 use Rattle.layout.specs.declared.Fault.{Fault}
-use Rattle.layout.specs.Types.{unwrap_or, Meter, Board}
+use Rattle.layout.specs.Types.{Meter, Board}
 use Rattle.refusal.specs.Refusals.{refusal}
 use Rattle.layout.specs.Read.{unit}
 
@@ -86,19 +85,14 @@ place_x j cw r b a =
 pub record Line : Type 0 where
   pub height : ℕ
   pub font_spacing : ℕ
-  pub line_spacing : OptNum
-
--- the first of two options that is there
-abbrev pub first_of : OptNum → OptNum → OptNum
-first_of NoNum b = b
-first_of (SomeNum n) b = SomeNum n
+  pub line_spacing : Option ℕ
 
 abbrev pub combine : Line → Line → Line
 combine a b =
     record {
       height = max a.height b.height;
       font_spacing = max a.font_spacing b.font_spacing;
-      line_spacing = first_of a.line_spacing b.line_spacing;
+      line_spacing = option_or a.line_spacing b.line_spacing;
     }
 
 -- "a span whose line number is at or past its length adds a new line"; otherwise it combines with the line of its number

@@ -1,18 +1,15 @@
 -- Document 01, "Page states" and "Placing": reading a message's items into passes of spans. Nothing is placed here.
-use Rattle.std.specs.Prelude.{ℕ, zero, suc, ◌+◌, ◌-◌, ◌%◌, max, Bool, true, false, ◌&&◌, List, [], ◌∷◌, ◌++◌, leb, ltb, eqb, Option, Some, None, Result, Ok, Err}
+use Rattle.std.specs.Prelude.{ℕ, zero, suc, ◌+◌, ◌-◌, ◌%◌, max, Bool, true, false, ◌&&◌, List, [], ◌∷◌, ◌++◌, leb, ltb, eqb, Option, Some, None, Result, Ok, Err, unwrap_or}
 use Rattle.base.specs.Pick.{pick}
-use Rattle.value.specs.declared.OptFont.{OptFont}
-use Rattle.value.specs.declared.OptFont.TheVariants.{Some as SomeFont, None as NoFont}
 use Rattle.value.specs.declared.Place.{Place}
 use Rattle.value.specs.declared.Rectangle.{Rectangle}
+use Rattle.value.specs.declared.SyntaxError.{SyntaxError}
+use Rattle.value.specs.declared.SyntaxError.TheVariants.{UnsupportedTag}
 use Rattle.value.specs.declared.Value.{Value}
 use Rattle.value.specs.declared.Value.TheVariants.{ColorBackground, ColorForeground, ColorRectangle, Field, Flash, FlashEnd, Font, Graphic, HexadecimalCharacter, JustificationLine, JustificationPage, ManufacturerSpecific, ManufacturerSpecificEnd, MovingText, NewLine, NewPage, PageBackground, PageTime, SpacingCharacter, SpacingCharacterEnd, Text, TextRectangle}
+use Rattle.value.specs.Syntax.{number_of}
 use Rattle.value.specs.Tag.{tag_of, has_tag}
-use Rattle.reading.specs.declared.Said.{Said}
-use Rattle.reading.specs.declared.Said.TheVariants.{Is, Fails}
 use Rattle.refusal.specs.declared.Refusal.{Refusal}
-use Rattle.value.specs.declared.OptNum.{OptNum}
-use Rattle.value.specs.declared.OptNum.TheVariants.{Some as SomeNum, None as NoNum}
 use Rattle.records.specs.declared.Config.{Config}
 use Rattle.layout.specs.declared.Rect.{Rect}
 use Rattle.layout.specs.declared.RenderState.{RenderState}
@@ -22,7 +19,7 @@ use Rattle.layout.specs.declared.Mark.TheVariants.{Plain, Ends, Timed}
 use Rattle.layout.specs.declared.Scan.{Scan}
 use Rattle.layout.specs.declared.Step.{Step}
 use Rattle.layout.specs.declared.Step.TheVariants.{Go, Emit, Cut, Turn}
-use Rattle.layout.specs.Types.{Item, place_of, unwrap_or}
+use Rattle.layout.specs.Types.{Item, place_of}
 use Rattle.refusal.specs.Refusals.{refusal}
 
 -- ---- a page's scan
@@ -32,11 +29,11 @@ abbrev pub refusal_at : Place → ℕ → Refusal
 refusal_at at n = refusal n at.start at.len 0
 
 -- a tag needs its name's bit in the sign's tags: 5, "a tag this sign doesn't support; field 0 counts as unsupported", having no bit
-abbrev pub tagged : ℕ → Value → Mark → Result Mark ℕ
-tagged tags v m = pick (has_tag tags (tag_of v)) (Ok m) (Err 5)
+abbrev pub tagged : ℕ → Value → Mark → Result Mark SyntaxError
+tagged tags v m = pick (has_tag tags (tag_of v)) (Ok m) (Err UnsupportedTag)
 
 -- of each value; a text has no tag and needs no bit
-abbrev pub mark_of : ℕ → Value → Result Mark ℕ
+abbrev pub mark_of : ℕ → Value → Result Mark SyntaxError
 mark_of tags (ColorBackground c) = tagged tags (ColorBackground c) Plain
 mark_of tags (ColorForeground c) = tagged tags (ColorForeground c) Plain
 mark_of tags (ColorRectangle r c) = tagged tags (ColorRectangle r c) Plain
@@ -61,17 +58,17 @@ mark_of tags (Text p) = Ok Plain
 mark_of tags (TextRectangle r) = tagged tags (TextRectangle r) Plain
 
 -- a slice that fails has its number: 5, "no known tag"; 6, "a bad parameter"; 7, a code point outside 1 to 255
-abbrev pub mark_item : ℕ → Said → Result Mark ℕ
-mark_item tags (Is v) = mark_of tags v
-mark_item tags (Fails n) = Err n
+abbrev pub mark_item : ℕ → Result Value SyntaxError → Result Mark SyntaxError
+mark_item tags (Ok v) = mark_of tags v
+mark_item tags (Err e) = Err e
 
 -- a page's times, and its first failing slice, "by position up to and including [np], before any placing".
 -- "Page times are the last [pt] before [np], a missing part taking the sign's default; without a [pt] they carry over from the page before"
-abbrev pub scan_by : Config → ℕ → ℕ → Item → Result Mark ℕ → (ℕ → ℕ → Scan) → Scan
+abbrev pub scan_by : Config → ℕ → ℕ → Item → Result Mark SyntaxError → (ℕ → ℕ → Scan) → Scan
 scan_by s a b it (Ok Plain) next = next a b
 scan_by s a b it (Ok Ends) next = record { on = a; off = b; fault = None }
 scan_by s a b it (Ok (Timed p q)) next = next (unwrap_or p s.on_time) (unwrap_or q s.off_time)
-scan_by s a b it (Err n) next = record { on = a; off = b; fault = Some (refusal_at (place_of it) n) }
+scan_by s a b it (Err e) next = record { on = a; off = b; fault = Some (refusal_at (place_of it) (number_of e)) }
 
 abbrev pub scan : Config → ℕ → ℕ → List Item → Scan
 scan s a b [] = record { on = a; off = b; fault = None }
@@ -128,7 +125,7 @@ with_just_page st j =
     }
 
 -- [nl]: the next line, with the spacing above it
-abbrev pub with_line : RenderState → OptNum → RenderState
+abbrev pub with_line : RenderState → Option ℕ → RenderState
 with_line st ls =
     record {
       rect = st.rect;
@@ -142,7 +139,7 @@ with_line st ls =
       span = 0;
     }
 
-abbrev pub with_char_spacing : RenderState → OptNum → RenderState
+abbrev pub with_char_spacing : RenderState → Option ℕ → RenderState
 with_char_spacing st cs =
     record {
       rect = st.rect;
@@ -156,7 +153,7 @@ with_char_spacing st cs =
       span = st.span;
     }
 
-abbrev pub with_font : RenderState → ℕ → OptNum → RenderState
+abbrev pub with_font : RenderState → ℕ → Option ℕ → RenderState
 with_font st f v =
     record {
       rect = st.rect;
@@ -186,9 +183,9 @@ with_rect st r =
     }
 
 -- [fo] without a number: the sign's font, and no version id
-abbrev pub font_step : Config → RenderState → OptFont → RenderState
-font_step s st (SomeFont n v) = with_font st n v
-font_step s st NoFont = with_font st s.font NoNum
+abbrev pub font_step : Config → RenderState → Option (ℕ × Option ℕ) → RenderState
+font_step s st (Some (n, v)) = with_font st n v
+font_step s st None = with_font st s.font None
 
 -- 8: "The 256th .. span since its number restarted"; "a text or [hc] ends the blank"
 abbrev pub span_step : Place → RenderState → Entry → Result Step Refusal
@@ -215,16 +212,16 @@ abbrev pub rect_fits : Config → Rect → Bool
 rect_fits s r = fits r.left r.width s.width s.char_width && fits r.top r.height s.height s.char_height
 
 -- the justification in force after [jl] or [jp]: none is the sign's; 2 to 4 are taken
-abbrev pub justified : OptNum → ℕ → OptNum
-justified NoNum d = SomeNum d
-justified (SomeNum n) d = pick (leb 2 n) (pick (leb n 4) (SomeNum n) NoNum) NoNum
+abbrev pub justified : Option ℕ → ℕ → Option ℕ
+justified None d = Some d
+justified (Some n) d = pick (leb 2 n) (pick (leb n 4) (Some n) None) None
 
-abbrev pub go_if : Place → OptNum → (ℕ → RenderState) → Bool → Result Step Refusal
-go_if at NoNum f blank = Err (refusal_at at 6)
-go_if at (SomeNum n) f blank = Ok (Go (f n) blank)
+abbrev pub go_if : Place → Option ℕ → (ℕ → RenderState) → Bool → Result Step Refusal
+go_if at None f blank = Err (refusal_at at 6)
+go_if at (Some n) f blank = Ok (Go (f n) blank)
 
 -- "[nl] on a still blank line lists an empty span": kind 2, which "starts at its [nl], length 0"
-abbrev pub line_step : Place → RenderState → OptNum → Bool → Result Step Refusal
+abbrev pub line_step : Place → RenderState → Option ℕ → Bool → Result Step Refusal
 line_step at st ls true = Ok (Emit (entry_of 2 at.start 0 0 st) (with_line st ls) true)
 line_step at st ls false = Ok (Go (with_line st ls) true)
 
@@ -240,13 +237,13 @@ abbrev pub above0 : ℕ → ℕ → Bool
 above0 a b = ltb 0 a && ltb 0 b
 
 -- 8: "The 256th line end .. since its number restarted"
-abbrev pub new_line_step : Config → RenderState → Bool → Place → OptNum → Result Step Refusal
+abbrev pub new_line_step : Config → RenderState → Bool → Place → Option ℕ → Result Step Refusal
 new_line_step s st blank at ls =
     pick (above0 s.char_height (unwrap_or ls 0)) (Err (refusal_at at 6))
     (pick (ltb st.line 255) (line_step at st ls blank) (Err (refusal_at at 8)))
 
 abbrev pub spacing_step : Config → RenderState → Bool → Place → ℕ → Result Step Refusal
-spacing_step s st blank at n = pick (above0 s.char_width n) (Err (refusal_at at 6)) (Ok (Go (with_char_spacing st (SomeNum n)) blank))
+spacing_step s st blank at n = pick (above0 s.char_width n) (Err (refusal_at at 6)) (Ok (Go (with_char_spacing st (Some n)) blank))
 
 abbrev pub rect_step : Config → RenderState → Place → Rectangle → Result Step Refusal
 rect_step s st at r = pick (rect_fits s (rect_of s r)) (Ok (Cut (with_rect st (rect_of s r)))) (Err (refusal_at at 6))
@@ -273,14 +270,14 @@ value_step s st blank at NewPage = Ok Turn
 value_step s st blank at (PageBackground c) = Ok (Go st blank)
 value_step s st blank at (PageTime a b) = Ok (Go st blank)
 value_step s st blank at (SpacingCharacter n) = spacing_step s st blank at n
-value_step s st blank at SpacingCharacterEnd = Ok (Go (with_char_spacing st NoNum) blank)
+value_step s st blank at SpacingCharacterEnd = Ok (Go (with_char_spacing st None) blank)
 value_step s st blank at (Text p) = span_step at st (entry_of 0 p.start p.len 0 st)
 value_step s st blank at (TextRectangle r) = rect_step s st at r
 
 -- an item that fails was refused by the page's scan
-abbrev pub item_step : Config → RenderState → Bool → Place → Said → Result Step Refusal
-item_step s st blank at (Is v) = value_step s st blank at v
-item_step s st blank at (Fails n) = Err (refusal_at at n)
+abbrev pub item_step : Config → RenderState → Bool → Place → Result Value SyntaxError → Result Step Refusal
+item_step s st blank at (Ok v) = value_step s st blank at v
+item_step s st blank at (Err e) = Err (refusal_at at (number_of e))
 
 unfoldable pub step : Config → RenderState → Bool → Item → Result Step Refusal
 step s st blank it = item_step s st blank (place_of it) it.says
@@ -310,7 +307,7 @@ new_page s st =
       just_line = st.just_line;
       font = st.font;
       version = st.version;
-      line_spacing = NoNum;
+      line_spacing = None;
       char_spacing = st.char_spacing;
       line = 0;
       span = 0;
@@ -324,15 +321,16 @@ start s =
       just_page = s.page_just;
       just_line = s.line_just;
       font = s.font;
-      version = NoNum;
-      line_spacing = NoNum;
-      char_spacing = NoNum;
+      version = None;
+      line_spacing = None;
+      char_spacing = None;
       line = 0;
       span = 0;
     }
 
 -- "A pass ends at [tr], [np] or the end"; "Each pass starts with a blank line". acc: the spans of the pass so far; next reads the rest
-abbrev pub follow : Config → ℕ → ℕ → RenderState → List Entry → List Item → (ℕ → ℕ → RenderState → Bool → List Entry → List Event) → Result Step Refusal → List Event
+abbrev pub follow : Config → ℕ → ℕ → RenderState → List Entry → List Item → (ℕ → ℕ → RenderState → Bool → List Entry → List Event)
+    → Result Step Refusal → List Event
 follow s a b st acc its next (Err r) = stop r ∷ []
 follow s a b st acc its next (Ok (Go st' blank)) = next a b st' blank acc
 follow s a b st acc its next (Ok (Emit e st' blank)) = next a b st' blank (acc ++ (e ∷ []))

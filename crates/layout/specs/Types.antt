@@ -1,21 +1,20 @@
--- What a listing goes over: the items of a message, what the fonts say of a span, and the sign. Rect, RenderState, Entry and Step are declared in
--- src/lib.rt.
-use Rattle.std.specs.Prelude.{ℕ, List, map, length, Option}
+-- What a listing goes over: the items of a message, what the fonts say of a span, and the sign. Rect, RenderState, Entry, Fault, Scan and Step are
+-- declared in src/lib.rt.
+use Rattle.std.specs.Prelude.{ℕ, List, map, length, Option, Result}
 use Rattle.token.specs.Token.{Slice, slices}
 use Rattle.value.specs.declared.Place.{Place}
-use Rattle.value.specs.declared.OptNum.{OptNum}
-use Rattle.value.specs.declared.OptNum.TheVariants.{Some as SomeNum, None as NoNum}
+use Rattle.value.specs.declared.SyntaxError.{SyntaxError}
+use Rattle.value.specs.declared.Value.{Value}
 use Rattle.records.specs.declared.Config.{Config}
-use Rattle.reading.specs.declared.Said.{Said}
 use Rattle.reading.specs.Reading.{item_of}
 use Rattle.layout.specs.declared.Entry.{Entry}
 use Rattle.layout.specs.declared.Fault.{Fault}
 
--- a slice of the message, and what it says: its value, or the number of its refusal (5, 6 or 7)
+-- a slice of the message, and what it says: its value, or why it fails (5, 6 or 7)
 pub record Item : Type 0 where
   pub start : ℕ
   pub len : ℕ
-  pub says : Said
+  pub says : Result Value SyntaxError
 
 -- read as the sign has it: its times may be long (document 02, A5)
 abbrev pub item_at : Config → Slice → Item
@@ -29,12 +28,7 @@ place_of it = record { start = it.start; len = it.len }
 unfoldable pub items : Config → List ℕ → List Item
 items c msg = map (item_at c) (slices msg)
 
--- the number of an option, or d where there is none
-abbrev pub unwrap_or : OptNum → ℕ → ℕ
-unwrap_or NoNum d = d
-unwrap_or (SomeNum n) d = n
-
--- what the fonts say of a span: number and detail of the first of refusals 10 to 12 that it meets, of 10 and 11 alone, and its measures
+-- what the fonts say of a span: the first of refusals 10 to 12 that it meets, of 10 and 11 alone, and its measures
 pub record Meter : Type 0 where
   pub fault : Entry → Option Fault
   pub font_fault : Entry → Option Fault

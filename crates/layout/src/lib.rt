@@ -2,12 +2,11 @@
 #![tactic(auto)]
 
 ghost use Rattle.std.specs.Prelude.{◌≡◌, ◌<◌};
-ghost use Rattle.layout.specs.Types.{unwrap_or};
 ghost use Rattle.layout.specs.Read.{refusal_at, with_span, with_just_line, with_just_page, with_line, with_char_spacing, with_font, with_rect, unit as unit_of, whole as whole_of, new_page, start as start_of};
 
 use records::Config;
 use refusal::Refusal;
-use value::{OptNum, Place};
+use value::Place;
 
 // A text rectangle; left and top from 0: [tr]'s x - 1 and y - 1.
 #[derive(Clone, Copy)]
@@ -18,21 +17,21 @@ pub struct Rect {
     pub height: u16,
 }
 
-// What is in force where a span is read.
+// What is in force where a span is read. A justification is a number, as tags and sign files have it and the definitions order and test it.
 #[derive(Clone, Copy)]
 pub struct RenderState {
     pub rect: Rect,
     pub just_page: u8,
     pub just_line: u8,
     pub font: u8,
-    pub version: OptNum,
-    pub line_spacing: OptNum,
-    pub char_spacing: OptNum,
+    pub version: Option<u16>,
+    pub line_spacing: Option<u16>,
+    pub char_spacing: Option<u16>,
     pub line: u8,
     pub span: u8,
 }
 
-// A span before it is placed: its record's kind, start, length and code, and the state it was read in.
+// A span before it is placed: its record's kind, start, length and code, and the state it was read in. The kind is the record's number, which C reads.
 #[derive(Clone, Copy)]
 pub struct Entry {
     pub kind: u16,
@@ -42,7 +41,7 @@ pub struct Entry {
     pub state: RenderState,
 }
 
-// Number and detail of refusal 10, 11 or 12: what the fonts say against a span.
+// Number and detail of refusal 10, 11 or 12, as the refusal has them: what the fonts say against a span.
 #[derive(Clone, Copy)]
 pub struct Fault {
     pub number: u8,
@@ -54,7 +53,7 @@ pub struct Fault {
 pub enum Mark {
     Plain,
     Ends,
-    Timed(OptNum, OptNum),
+    Timed(Option<u16>, Option<u16>),
 }
 
 // A page's times, and its first failing slice.
@@ -98,22 +97,13 @@ pub struct Span {
 }
 
 // On or off with its duration in tenths of a second, on also with its count of records; the end with the count of answers; or a refusal.
+// No Result: the document and C have a refusal as one of four answers, and the definitions count it among them.
 #[derive(Clone, Copy)]
 pub enum Answer {
     On(u16, u16),
     Off(u16),
     End(u16),
     Refused(Refusal),
-}
-
-// The number of an option, or d where there is none.
-pub fn unwrap_or(o: OptNum, d: u16) -> u16
-    ensures { result ≡ unwrap_or o d }
-{
-    match o {
-        OptNum::Some(n) => n,
-        OptNum::None => d,
-    }
 }
 
 // A refusal of an item: it carries the item's place.
@@ -181,7 +171,7 @@ impl RenderState {
     }
 
     // [nl]: the next line.
-    pub fn with_line(self, spacing: OptNum) -> RenderState
+    pub fn with_line(self, spacing: Option<u16>) -> RenderState
         requires { self.line < 255 }
         ensures { result ≡ with_line self spacing }
     {
@@ -194,7 +184,7 @@ impl RenderState {
     }
 
     // [sc] and [/sc].
-    pub fn with_char_spacing(self, spacing: OptNum) -> RenderState
+    pub fn with_char_spacing(self, spacing: Option<u16>) -> RenderState
         ensures { result ≡ with_char_spacing self spacing }
     {
         RenderState {
@@ -204,7 +194,7 @@ impl RenderState {
     }
 
     // [fo].
-    pub fn with_font(self, font: u8, version: OptNum) -> RenderState
+    pub fn with_font(self, font: u8, version: Option<u16>) -> RenderState
         ensures { result ≡ with_font self font version }
     {
         RenderState {
@@ -232,7 +222,7 @@ impl RenderState {
     {
         RenderState {
             rect: whole(c),
-            line_spacing: OptNum::None,
+            line_spacing: None,
             line: 0,
             span: 0,
             ..self
@@ -248,9 +238,9 @@ impl RenderState {
             just_page: c.page_just,
             just_line: c.line_just,
             font: c.font,
-            version: OptNum::None,
-            line_spacing: OptNum::None,
-            char_spacing: OptNum::None,
+            version: None,
+            line_spacing: None,
+            char_spacing: None,
             line: 0,
             span: 0,
         }

@@ -1,101 +1,64 @@
 // Number readers: Rust's unsigned `parse` and `from_str_radix`, on any part of a slice.
 #![tactic(auto)]
 
-ghost use Rattle.std.specs.Prelude.{◌≡◌, ◌≤◌, ◌<◌};
-ghost use Rattle.number.specs.Number.{digit_of, read_digits, read_number, version_id};
-
-// What a reader answers: the number, or that the bytes are none.
-#[derive(Clone, Copy)]
-pub enum Number {
-    Is(u32),
-    Refused,
-}
-
-// The value of a byte as a digit of base 16, or 255.
-fn digit(b: u8) -> u8
-    ensures { result ≡ digit_of b }
-{
-    if b <= 57 {
-        if 48 <= b {
-            return b - 48;
-        }
-        return 255;
-    }
-    if b <= 70 {
-        if 65 <= b {
-            return b - 55;
-        }
-        return 255;
-    }
-    if b <= 102 {
-        if 97 <= b {
-            return b - 87;
-        }
-        return 255;
-    }
-    255
-}
+ghost use Rattle.std.specs.Prelude.{◌≡◌, ◌≤◌, ◌<◌, IfSome};
+ghost use Rattle.number.specs.Number.{read_digits, read_number, version_id};
 
 // One or more digits.
-fn read_digits(s: &[u8], radix: u64, max: u32) -> Number
-    requires { radix ≤ 16 }
-    ensures { result ≡ read_digits radix max s.now }
+#[tactic(auto, using(crate::proofs::Laws::steps), unfolding(crate::specs::Number::read_digits, crate::specs::Number::read_from))]
+fn read_digits(s: &[u8], radix: u32, max: u32) -> Option<u32>
+    requires { (2 ≤ radix) × (radix ≤ 16) }
+    ensures value { result ≡ read_digits radix max s.now }
+    ensures within { IfSome result (λ n. n ≤ max) }
 {
-    if s.len() == 0 {
-        return Number::Refused;
+    if s.is_empty() {
+        return None;
     }
-    let top = max as u64;
-    let mut acc: u64 = 0;
-    let mut i = 0;
-    while i < s.len() {
-        let d = base::wide(digit(s[i]));
-        if radix <= d {
-            return Number::Refused;
+    let mut n = 0u32;
+    for b in s {
+        let d = char::from(*b).to_digit(radix)?;
+        n = n.checked_mul(radix)?.checked_add(d)?;
+        if max < n {
+            return None;
         }
-        let next = acc * radix + d;
-        if top < next {
-            return Number::Refused;
-        }
-        acc = next;
-        i += 1;
     }
-    Number::Is(acc as u32)
+    Some(n)
 }
 
 // One or more digits, after a + or not.
-fn read_number(s: &[u8], radix: u64, max: u32) -> Number
-    requires { radix ≤ 16 }
-    ensures { result ≡ read_number radix max s.now }
+#[tactic(auto, unfolding(crate::specs::Number::read_number, crate::specs::Number::read_digits))]
+fn read_number(s: &[u8], radix: u32, max: u32) -> Option<u32>
+    requires { (2 ≤ radix) × (radix ≤ 16) }
+    ensures value { result ≡ read_number radix max s.now }
+    ensures within { IfSome result (λ n. n ≤ max) }
 {
-    if s.len() == 0 {
-        return Number::Refused;
+    match s {
+        [b'+', digits @ ..] => read_digits(digits, radix, max),
+        _ => read_digits(s, radix, max),
     }
-    if s[0] == b'+' {
-        return read_digits(&s[1..], radix, max);
-    }
-    read_digits(s, radix, max)
 }
 
 // Rust's `parse`: a decimal number of at most max.
-pub fn parse(s: &[u8], max: u32) -> Number
-    ensures { result ≡ read_number 10 max s.now }
+pub fn parse(s: &[u8], max: u32) -> Option<u32>
+    ensures value { result ≡ read_number 10 max s.now }
+    ensures within { IfSome result (λ n. n ≤ max) }
 {
     read_number(s, 10, max)
 }
 
 // Rust's `u16::from_str_radix(_, 16)`: a hexadecimal number of 16 bits.
-pub fn from_hex(s: &[u8]) -> Number
-    ensures { result ≡ read_number 16 65535 s.now }
+pub fn from_hex(s: &[u8]) -> Option<u32>
+    ensures value { result ≡ read_number 16 65535 s.now }
+    ensures within { IfSome result (λ n. n ≤ 65535) }
 {
     read_number(s, 16, 65535)
 }
 
 // A version id: a hexadecimal number of exactly four bytes.
-pub fn version_id(s: &[u8]) -> Number
-    ensures { result ≡ version_id s.now }
+#[tactic(auto, unfolding(crate::specs::Number::version_id))]
+pub fn version_id(s: &[u8]) -> Option<u32>
+    ensures value { result ≡ version_id s.now }
+    ensures within { IfSome result (λ n. n ≤ 65535) }
 {
-    if s.len() == 4 {
-        return from_hex(s);
-    }
-    Number::Refused
+    if s.len() == 4 { from_hex(s) } else { None }
 }

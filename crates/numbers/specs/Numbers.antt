@@ -1,6 +1,6 @@
 -- A value as numbers: the place of its case in `enum Value`, from 1, and eight numbers, those that the case does not use being 0.
 -- tests/FORMAT.md has the same table. An option is 0 0, or 1 and its number; a colour is 0 and its number, or 1, red, green and blue.
-use Rattle.std.specs.Prelude.{ℕ, [], ◌∷◌}
+use Rattle.std.specs.Prelude.{ℕ, ◌-◌, List, [], ◌∷◌, ◌++◌, length, replicate, Option, Some, None}
 use Rattle.value.specs.declared.Color.{Color}
 use Rattle.value.specs.declared.Color.TheVariants.{Legacy, Rgb}
 use Rattle.value.specs.declared.FlashOrder.{FlashOrder}
@@ -9,16 +9,7 @@ use Rattle.value.specs.declared.MovingTextDirection.{MovingTextDirection}
 use Rattle.value.specs.declared.MovingTextDirection.TheVariants.{Left, Right}
 use Rattle.value.specs.declared.MovingTextMode.{MovingTextMode}
 use Rattle.value.specs.declared.MovingTextMode.TheVariants.{Circular, Linear}
-use Rattle.value.specs.declared.OptColor.{OptColor}
-use Rattle.value.specs.declared.OptColor.TheVariants.{Some as SomeColor, None as NoColor}
-use Rattle.value.specs.declared.OptFont.{OptFont}
-use Rattle.value.specs.declared.OptFont.TheVariants.{Some as SomeFont, None as NoFont}
-use Rattle.value.specs.declared.OptNum.{OptNum}
-use Rattle.value.specs.declared.OptNum.TheVariants.{Some, None}
-use Rattle.value.specs.declared.OptPlace.{OptPlace}
-use Rattle.value.specs.declared.OptPlace.TheVariants.{Some as SomePlace, None as NoPlace}
-use Rattle.value.specs.declared.OptPoint.{OptPoint}
-use Rattle.value.specs.declared.OptPoint.TheVariants.{Some as SomePoint, None as NoPoint}
+use Rattle.value.specs.declared.Place.{Place}
 use Rattle.value.specs.declared.Value.{Value}
 use Rattle.value.specs.declared.Value.TheVariants.{ColorBackground, ColorForeground, ColorRectangle, Field, Flash, FlashEnd, Font, Graphic, HexadecimalCharacter, JustificationLine, JustificationPage, ManufacturerSpecific, ManufacturerSpecificEnd, MovingText, NewLine, NewPage, PageBackground, PageTime, SpacingCharacter, SpacingCharacterEnd, Text, TextRectangle}
 use Rattle.numbers.specs.declared.Numbers.{Numbers}
@@ -26,11 +17,15 @@ use Rattle.numbers.specs.declared.Numbers.{Numbers}
 abbrev pub make : ℕ → ℕ → ℕ → ℕ → ℕ → ℕ → ℕ → ℕ → ℕ → Numbers
 make code a b c d e f g h = record { code = code; n = a ∷ b ∷ c ∷ d ∷ e ∷ f ∷ g ∷ h ∷ [] }
 
-abbrev pub flag_of : OptNum → ℕ
+-- the first of the eight, and zeros
+abbrev pub padded : ℕ → List ℕ → Numbers
+padded code first = record { code = code; n = first ++ replicate (8 - length first) 0 }
+
+abbrev pub flag_of : Option ℕ → ℕ
 flag_of (Some n) = 1
 flag_of None = 0
 
-abbrev pub or_zero : OptNum → ℕ
+abbrev pub or_zero : Option ℕ → ℕ
 or_zero (Some n) = n
 or_zero None = 0
 
@@ -66,21 +61,21 @@ abbrev pub blue_of : Color → ℕ
 blue_of (Legacy n) = 0
 blue_of (Rgb r g b) = b
 
-abbrev pub color_of : ℕ → OptColor → Numbers
-color_of code (SomeColor c) = make code 1 (kind_of c) (first_of c) (green_of c) (blue_of c) 0 0 0
-color_of code NoColor = make code 0 0 0 0 0 0 0 0
+abbrev pub color_of : ℕ → Option Color → Numbers
+color_of code (Some c) = make code 1 (kind_of c) (first_of c) (green_of c) (blue_of c) 0 0 0
+color_of code None = make code 0 0 0 0 0 0 0 0
 
-abbrev pub font_of : OptFont → Numbers
-font_of (SomeFont n v) = make 7 1 n (flag_of v) (or_zero v) 0 0 0 0
-font_of NoFont = make 7 0 0 0 0 0 0 0 0
+abbrev pub font_of : Option (ℕ × Option ℕ) → Numbers
+font_of (Some (n, v)) = make 7 1 n (flag_of v) (or_zero v) 0 0 0 0
+font_of None = make 7 0 0 0 0 0 0 0 0
 
-abbrev pub graphic_of : ℕ → OptPoint → Numbers
-graphic_of n (SomePoint x y v) = make 8 n 1 x y (flag_of v) (or_zero v) 0 0
-graphic_of n NoPoint = make 8 n 0 0 0 0 0 0 0
+abbrev pub graphic_of : ℕ → Option (ℕ × ℕ × Option ℕ) → Numbers
+graphic_of n (Some (x, y, v)) = make 8 n 1 x y (flag_of v) (or_zero v) 0 0
+graphic_of n None = make 8 n 0 0 0 0 0 0 0
 
-abbrev pub specific_of : ℕ → ℕ → OptPlace → Numbers
-specific_of code m (SomePlace p) = make code m 1 p.start p.len 0 0 0 0
-specific_of code m NoPlace = make code m 0 0 0 0 0 0 0
+abbrev pub specific_of : ℕ → ℕ → Option Place → Numbers
+specific_of code m (Some p) = make code m 1 p.start p.len 0 0 0 0
+specific_of code m None = make code m 0 0 0 0 0 0 0
 
 abbrev pub numbers_of : Value → Numbers
 numbers_of (ColorBackground c) = color_of 1 c

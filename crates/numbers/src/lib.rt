@@ -1,13 +1,10 @@
 // A value as numbers: the place of its case in `enum Value`, from 1, and eight numbers. Vectors and C have values so.
 #![tactic(auto)]
 
-ghost use Rattle.std.specs.Prelude.{◌≡◌};
-ghost use Rattle.numbers.specs.Numbers.{make as make_of, numbers_of, flag_of, or_zero, order_of, mode_of, delay_of, direction_of, kind_of, first_of, green_of, blue_of, color_of, font_of, graphic_of, specific_of};
+ghost use Rattle.std.specs.Prelude.{◌≡◌, ◌≤◌, [], ◌∷◌};
+ghost use Rattle.numbers.specs.Numbers.{make as make_of, numbers_of, padded, flag_of, or_zero, mode_of, delay_of, direction_of, kind_of, first_of, green_of, blue_of, color_of, font_of, graphic_of, specific_of};
 
-use value::{
-    Color, FlashOrder, Movement, MovingTextDirection, MovingTextMode, OptColor, OptFont, OptNum,
-    OptPlace, OptPoint, Place, Rectangle, Value,
-};
+use value::{Color, Movement, MovingTextDirection, MovingTextMode, Place, Rectangle, Value};
 
 #[derive(Clone, Copy)]
 pub struct Numbers {
@@ -15,278 +12,123 @@ pub struct Numbers {
     pub n: [u32; 8],
 }
 
-fn flag(v: OptNum) -> u32
+// The first of the eight, and zeros.
+fn make<const N: usize>(code: u32, first: [u32; N]) -> Numbers
+    requires { N ≤ 8 }
+    ensures { result ≡ padded code first.entry }
+{
+    let mut n = [0; 8];
+    n[..N].copy_from_slice(&first);
+    Numbers { code, n }
+}
+
+fn flag(v: Option<u16>) -> u32
     ensures { result ≡ flag_of v }
 {
-    match v {
-        OptNum::Some(_) => 1,
-        OptNum::None => 0,
-    }
+    u32::from(v.is_some())
 }
 
-fn or_zero(v: OptNum) -> u32
+fn or_zero(v: Option<u16>) -> u32
     ensures { result ≡ or_zero v }
 {
-    match v {
-        OptNum::Some(n) => n as u32,
-        OptNum::None => 0,
-    }
+    u32::from(v.unwrap_or(0))
 }
 
-fn order(v: FlashOrder) -> u32
-    ensures { result ≡ order_of v }
+fn mode(v: MovingTextMode) -> [u32; 2]
+    ensures { result ≡ mode_of v ∷ delay_of v ∷ [] }
 {
     match v {
-        FlashOrder::OnOff => 0,
-        FlashOrder::OffOn => 1,
+        MovingTextMode::Circular => [0, 0],
+        MovingTextMode::Linear(d) => [1, u32::from(d)],
     }
 }
 
-fn mode(v: MovingTextMode) -> u32
-    ensures { result ≡ mode_of v }
+fn rgb(v: Color) -> [u32; 4]
+    ensures { result ≡ kind_of v ∷ first_of v ∷ green_of v ∷ blue_of v ∷ [] }
 {
     match v {
-        MovingTextMode::Circular => 0,
-        MovingTextMode::Linear(_) => 1,
+        Color::Legacy(n) => [0, u32::from(n), 0, 0],
+        Color::Rgb(r, g, b) => [1, u32::from(r), u32::from(g), u32::from(b)],
     }
 }
 
-fn delay(v: MovingTextMode) -> u32
-    ensures { result ≡ delay_of v }
-{
-    match v {
-        MovingTextMode::Circular => 0,
-        MovingTextMode::Linear(d) => base::wide32(d),
-    }
-}
-
-fn direction(v: MovingTextDirection) -> u32
-    ensures { result ≡ direction_of v }
-{
-    match v {
-        MovingTextDirection::Left => 0,
-        MovingTextDirection::Right => 1,
-    }
-}
-
-fn kind(v: Color) -> u32
-    ensures { result ≡ kind_of v }
-{
-    match v {
-        Color::Legacy(_) => 0,
-        Color::Rgb(_, _, _) => 1,
-    }
-}
-
-fn first(v: Color) -> u32
-    ensures { result ≡ first_of v }
-{
-    match v {
-        Color::Legacy(n) => base::wide32(n),
-        Color::Rgb(r, _, _) => base::wide32(r),
-    }
-}
-
-fn green(v: Color) -> u32
-    ensures { result ≡ green_of v }
-{
-    match v {
-        Color::Legacy(_) => 0,
-        Color::Rgb(_, g, _) => base::wide32(g),
-    }
-}
-
-fn blue(v: Color) -> u32
-    ensures { result ≡ blue_of v }
-{
-    match v {
-        Color::Legacy(_) => 0,
-        Color::Rgb(_, _, b) => base::wide32(b),
-    }
-}
-
-fn color(code: u32, v: OptColor) -> Numbers
+fn color(code: u32, v: Option<Color>) -> Numbers
     ensures { result ≡ color_of code v }
 {
     match v {
-        OptColor::Some(c) => Numbers {
-            code,
-            n: [1, kind(c), first(c), green(c), blue(c), 0, 0, 0],
-        },
-        OptColor::None => Numbers { code, n: [0; 8] },
+        Some(c) => {
+            let [k, r, g, b] = rgb(c);
+            make(code, [1, k, r, g, b])
+        }
+        None => make(code, []),
     }
 }
 
-fn font(v: OptFont) -> Numbers
+fn font(v: Option<(u8, Option<u16>)>) -> Numbers
     ensures { result ≡ font_of v }
 {
     match v {
-        OptFont::Some(n, id) => Numbers {
-            code: 7,
-            n: [1, base::wide32(n), flag(id), or_zero(id), 0, 0, 0, 0],
-        },
-        OptFont::None => Numbers { code: 7, n: [0; 8] },
+        Some((n, id)) => make(7, [1, u32::from(n), flag(id), or_zero(id)]),
+        None => make(7, []),
     }
 }
 
-fn graphic(n: u8, v: OptPoint) -> Numbers
+fn graphic(n: u8, v: Option<(u16, u16, Option<u16>)>) -> Numbers
     ensures { result ≡ graphic_of n v }
 {
+    let n = u32::from(n);
     match v {
-        OptPoint::Some(x, y, id) => Numbers {
-            code: 8,
-            n: [
-                base::wide32(n),
-                1,
-                x as u32,
-                y as u32,
-                flag(id),
-                or_zero(id),
-                0,
-                0,
-            ],
-        },
-        OptPoint::None => Numbers {
-            code: 8,
-            n: [base::wide32(n), 0, 0, 0, 0, 0, 0, 0],
-        },
+        Some((x, y, id)) => make(8, [n, 1, u32::from(x), u32::from(y), flag(id), or_zero(id)]),
+        None => make(8, [n]),
     }
 }
 
-fn specific(code: u32, m: u32, v: OptPlace) -> Numbers
+fn specific(code: u32, m: u32, v: Option<Place>) -> Numbers
     ensures { result ≡ specific_of code m v }
 {
     match v {
-        OptPlace::Some(p) => Numbers {
-            code,
-            n: [m, 1, p.start as u32, p.len as u32, 0, 0, 0, 0],
-        },
-        OptPlace::None => Numbers {
-            code,
-            n: [m, 0, 0, 0, 0, 0, 0, 0],
-        },
-    }
-}
-
-// One number.
-fn one(code: u32, a: u32) -> Numbers
-    ensures { result ≡ make_of code a 0 0 0 0 0 0 0 }
-{
-    Numbers {
-        code,
-        n: [a, 0, 0, 0, 0, 0, 0, 0],
-    }
-}
-
-// One optional number.
-fn number(code: u32, v: OptNum) -> Numbers
-    ensures { result ≡ make_of code (flag_of v) (or_zero v) 0 0 0 0 0 0 }
-{
-    Numbers {
-        code,
-        n: [flag(v), or_zero(v), 0, 0, 0, 0, 0, 0],
-    }
-}
-
-// Two optional numbers.
-fn times(code: u32, a: OptNum, b: OptNum) -> Numbers
-    ensures { result ≡ make_of code (flag_of a) (or_zero a) (flag_of b) (or_zero b) 0 0 0 0 }
-{
-    Numbers {
-        code,
-        n: [flag(a), or_zero(a), flag(b), or_zero(b), 0, 0, 0, 0],
-    }
-}
-
-fn flash(o: FlashOrder, a: OptNum, b: OptNum) -> Numbers
-    ensures { result ≡ make_of 5 (order_of o) (flag_of a) (or_zero a) (flag_of b) (or_zero b) 0 0 0 }
-{
-    Numbers {
-        code: 5,
-        n: [order(o), flag(a), or_zero(a), flag(b), or_zero(b), 0, 0, 0],
-    }
-}
-
-fn rectangle(code: u32, v: Rectangle) -> Numbers
-    ensures { result ≡ make_of code v.x v.y v.width v.height 0 0 0 0 }
-{
-    Numbers {
-        code,
-        n: [
-            v.x as u32,
-            v.y as u32,
-            v.width as u32,
-            v.height as u32,
-            0,
-            0,
-            0,
-            0,
-        ],
+        Some(p) => make(code, [m, 1, u32::from(p.start), u32::from(p.len)]),
+        None => make(code, [m]),
     }
 }
 
 fn color_rectangle(v: Rectangle, c: Color) -> Numbers
     ensures { result ≡ make_of 3 v.x v.y v.width v.height (kind_of c) (first_of c) (green_of c) (blue_of c) }
 {
-    Numbers {
-        code: 3,
-        n: [
-            v.x as u32,
-            v.y as u32,
-            v.width as u32,
-            v.height as u32,
-            kind(c),
-            first(c),
-            green(c),
-            blue(c),
+    let [k, r, g, b] = rgb(c);
+    make(
+        3,
+        [
+            u32::from(v.x),
+            u32::from(v.y),
+            u32::from(v.width),
+            u32::from(v.height),
+            k,
+            r,
+            g,
+            b,
         ],
-    }
+    )
 }
 
 fn moving(m: MovingTextMode, d: MovingTextDirection, t: Movement) -> Numbers
     ensures { result ≡ make_of 14 (mode_of m) (delay_of m) (direction_of d) t.width t.pixels t.deciseconds t.text.start t.text.len }
 {
+    let [k, delay] = mode(m);
     let text = t.text;
-    Numbers {
-        code: 14,
-        n: [
-            mode(m),
-            delay(m),
-            direction(d),
-            t.width as u32,
-            base::wide32(t.pixels),
-            base::wide32(t.deciseconds),
-            text.start as u32,
-            text.len as u32,
+    make(
+        14,
+        [
+            k,
+            delay,
+            d as u32,
+            u32::from(t.width),
+            u32::from(t.pixels),
+            u32::from(t.deciseconds),
+            u32::from(text.start),
+            u32::from(text.len),
         ],
-    }
-}
-
-fn field(n: u8, w: OptNum) -> Numbers
-    ensures { result ≡ make_of 4 n (flag_of w) (or_zero w) 0 0 0 0 0 }
-{
-    Numbers {
-        code: 4,
-        n: [base::wide32(n), flag(w), or_zero(w), 0, 0, 0, 0, 0],
-    }
-}
-
-fn spacing(s: u8) -> Numbers
-    ensures { result ≡ make_of 19 s 0 0 0 0 0 0 0 }
-{
-    Numbers {
-        code: 19,
-        n: [base::wide32(s), 0, 0, 0, 0, 0, 0, 0],
-    }
-}
-
-fn text(p: Place) -> Numbers
-    ensures { result ≡ make_of 21 p.start p.len 0 0 0 0 0 0 }
-{
-    Numbers {
-        code: 21,
-        n: [p.start as u32, p.len as u32, 0, 0, 0, 0, 0, 0],
-    }
+    )
 }
 
 // The numbers of a value.
@@ -297,24 +139,32 @@ pub fn numbers_of(v: Value) -> Numbers
         Value::ColorBackground(c) => color(1, c),
         Value::ColorForeground(c) => color(2, c),
         Value::ColorRectangle(r, c) => color_rectangle(r, c),
-        Value::Field(n, w) => field(n, w),
-        Value::Flash(o, a, b) => flash(o, a, b),
-        Value::FlashEnd => one(6, 0),
+        Value::Field(n, w) => make(4, [u32::from(n), flag(w), or_zero(w)]),
+        Value::Flash(o, a, b) => make(5, [o as u32, flag(a), or_zero(a), flag(b), or_zero(b)]),
+        Value::FlashEnd => make(6, []),
         Value::Font(f) => font(f),
         Value::Graphic(n, p) => graphic(n, p),
-        Value::HexadecimalCharacter(c) => one(9, c as u32),
-        Value::JustificationLine(j) => number(10, j),
-        Value::JustificationPage(j) => number(11, j),
+        Value::HexadecimalCharacter(c) => make(9, [u32::from(c)]),
+        Value::JustificationLine(j) => make(10, [flag(j), or_zero(j)]),
+        Value::JustificationPage(j) => make(11, [flag(j), or_zero(j)]),
         Value::ManufacturerSpecific(m, p) => specific(12, m, p),
         Value::ManufacturerSpecificEnd(m, p) => specific(13, m, p),
         Value::MovingText(m, d, t) => moving(m, d, t),
-        Value::NewLine(s) => number(15, s),
-        Value::NewPage => one(16, 0),
+        Value::NewLine(s) => make(15, [flag(s), or_zero(s)]),
+        Value::NewPage => make(16, []),
         Value::PageBackground(c) => color(17, c),
-        Value::PageTime(a, b) => times(18, a, b),
-        Value::SpacingCharacter(s) => spacing(s),
-        Value::SpacingCharacterEnd => one(20, 0),
-        Value::Text(p) => text(p),
-        Value::TextRectangle(r) => rectangle(22, r),
+        Value::PageTime(a, b) => make(18, [flag(a), or_zero(a), flag(b), or_zero(b)]),
+        Value::SpacingCharacter(s) => make(19, [u32::from(s)]),
+        Value::SpacingCharacterEnd => make(20, []),
+        Value::Text(p) => make(21, [u32::from(p.start), u32::from(p.len)]),
+        Value::TextRectangle(r) => make(
+            22,
+            [
+                u32::from(r.x),
+                u32::from(r.y),
+                u32::from(r.width),
+                u32::from(r.height),
+            ],
+        ),
     }
 }

@@ -1,31 +1,32 @@
 -- The scan's ways on and out.
 use Prim.Native.Nat.{ℕ, ◌+◌, ◌-◌, ◌≤◌, ◌<◌}
 use mathlib.Core.Path.{◌≡◌, sym, ◌∙◌, ap}
-use mathlib.Core.List.{List, ◌∷◌, map}
+use mathlib.Core.List.{List, map}
 use lib.ListN.{length, take, drop}
-use Rattle.std.specs.Prelude.{None, Result, Ok, Err}
+use Rattle.std.specs.Prelude.{None, Result, Ok, Err, unwrap_or}
 use Rattle.std.specs.declared.ops.ControlFlow.{ControlFlow}
 use Rattle.std.specs.declared.ops.ControlFlow.TheVariants.{Continue, Break}
 use Rattle.token.specs.Token.{slice_len}
-use Rattle.token.proofs.Laws.{cuts_next, cuts_end}
-use Rattle.reading.specs.Reading.{place, item_of}
+use Rattle.token.proofs.Laws.{cuts_next, cuts_end, next_le, next_from, next_less}
+use Rattle.value.specs.declared.SyntaxError.{SyntaxError}
+use Rattle.reading.specs.Reading.{place}
 use Rattle.records.specs.declared.Config.{Config}
 use Rattle.layout.specs.declared.Mark.{Mark}
 use Rattle.layout.specs.declared.Mark.TheVariants.{Plain, Ends, Timed}
 use Rattle.layout.specs.declared.Scan.{Scan}
-use Rattle.layout.specs.Types.{Item, item_at, unwrap_or}
+use Rattle.layout.specs.Types.{Item, item_at}
 use Rattle.layout.specs.Read.{mark_item, scan_by, scan}
 use Rattle.page.specs.Scan.{look_by, look_at, items_from}
 
 -- one item
 module _ (c : Config) (a b : ℕ) (it : Item) (next : ℕ → ℕ → Scan) where
-  stop_mark : (m : Result Mark ℕ) (s : Scan) → look_by c a b (place it.start it.len) m ≡ Break s → s ≡ scan_by c a b it m next
+  stop_mark : (m : Result Mark SyntaxError) (s : Scan) → look_by c a b (place it.start it.len) m ≡ Break s → s ≡ scan_by c a b it m next
   stop_mark (Ok Plain) s e = cc
   stop_mark (Ok Ends) s e = cc
   stop_mark (Ok (Timed p q)) s e = cc
   stop_mark (Err n) s e = cc
 
-  on_mark : (m : Result Mark ℕ) (z : ℕ × ℕ) → look_by c a b (place it.start it.len) m ≡ Continue z → next z.0 z.1 ≡ scan_by c a b it m next
+  on_mark : (m : Result Mark SyntaxError) (z : ℕ × ℕ) → look_by c a b (place it.start it.len) m ≡ Continue z → next z.0 z.1 ≡ scan_by c a b it m next
   on_mark (Ok Plain) z e =
       let k : z ≡ (a, b) = cc in
       rw k
@@ -54,3 +55,5 @@ module _ (c : Config) (a b at : ℕ) (l : List ℕ) (h : at < length l) (r : ℕ
 pub scan_end : (c : Config) (a b at : ℕ) (l : List ℕ) → length l ≤ at → record { on = a; off = b; fault = None } ≡ scan c a b (items_from c at l)
 unfolding items_from
 scan_end c a b at l h = rw (cuts_end at l h)
+
+pub ruleset scan_ways = (scan_on, scan_end, next_le, next_from, next_less)

@@ -7,23 +7,22 @@ ghost use Rattle.page.specs.State.{new_page, done_after, next_state};
 ghost use Rattle.page.specs.Scan.{look_by, look_at, items_from};
 
 use layout::{Mark, Scan};
-use reading::Said;
 use records::Config;
 use std::ops::ControlFlow;
-use value::{Place, Value};
+use value::{Place, SyntaxError, Value};
 
 // A tag needs its name's bit in the sign's tags.
-fn tagged(tags: u32, v: Value, m: Mark) -> Result<Mark, u8>
+fn tagged(tags: u32, v: Value, m: Mark) -> Result<Mark, SyntaxError>
     ensures { result ≡ tagged_of tags v m }
 {
     if value::has_tag(tags, v.tag()) {
         Ok(m)
     } else {
-        Err(5)
+        Err(SyntaxError::UnsupportedTag)
     }
 }
 
-fn mark_of(tags: u32, v: Value) -> Result<Mark, u8>
+fn mark_of(tags: u32, v: Value) -> Result<Mark, SyntaxError>
     ensures { result ≡ mark_of tags v }
 {
     match v {
@@ -34,13 +33,10 @@ fn mark_of(tags: u32, v: Value) -> Result<Mark, u8>
     }
 }
 
-fn mark_item(tags: u32, item: Said) -> Result<Mark, u8>
+fn mark_item(tags: u32, item: Result<Value, SyntaxError>) -> Result<Mark, SyntaxError>
     ensures { result ≡ mark_item tags item }
 {
-    match item {
-        Said::Is(v) => mark_of(tags, v),
-        Said::Fails(n) => Err(n),
-    }
+    mark_of(tags, item?)
 }
 
 // The times after an item at a place, or the scan's end.
@@ -49,7 +45,7 @@ fn look_by(
     on: u16,
     off: u16,
     p: Place,
-    m: Result<Mark, u8>,
+    m: Result<Mark, SyntaxError>,
 ) -> ControlFlow<Scan, (u16, u16)>
     ensures { result ≡ look_by c on off p m }
 {
@@ -61,18 +57,18 @@ fn look_by(
             fault: None,
         }),
         Ok(Mark::Timed(a, b)) => ControlFlow::Continue((
-            layout::unwrap_or(a, u16::from(c.on_time)),
-            layout::unwrap_or(b, u16::from(c.off_time)),
+            a.unwrap_or(u16::from(c.on_time)),
+            b.unwrap_or(u16::from(c.off_time)),
         )),
-        Err(number) => ControlFlow::Break(Scan {
+        Err(e) => ControlFlow::Break(Scan {
             on,
             off,
-            fault: Some(layout::refusal_at(p, number)),
+            fault: Some(layout::refusal_at(p, e.number())),
         }),
     }
 }
 
-// What the slice s, which starts at a place, makes of the times.
+// What the slice s, which starts at a place, makes of the times. The casts are proved; try_from would add an error that no call gives.
 fn look_at(s: &[u8], at: usize, c: Config, on: u16, off: u16) -> ControlFlow<Scan, (u16, u16)>
     requires { at + length s.now ≤ 2048 }
     ensures { result ≡ look_at c on off at s.now }
@@ -86,11 +82,13 @@ fn look_at(s: &[u8], at: usize, c: Config, on: u16, off: u16) -> ControlFlow<Sca
 }
 
 // The scan of a page from a place of the message on, up to and including [np].
+#[tactic(auto, using(crate::proofs::Laws::scan_ways))]
 pub fn scan(msg: &[u8], from: usize, c: Config, mut on: u16, mut off: u16) -> Scan
     requires { length msg.now ≤ 2048 }
     ensures { result ≡ scan_of c on off (items_from c from msg.now) }
 {
     let mut at = from;
+    // A step is a slice, not a byte: where it ends its bytes say.
     while at < msg.len() {
         let end = token::slice_end(msg, at);
         match look_at(&msg[at..end], at, c, on, off) {

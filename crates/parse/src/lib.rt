@@ -2,18 +2,10 @@
 #![tactic(auto)]
 
 ghost use Rattle.std.specs.Prelude.{◌≡◌, ◌≤◌, length, drop};
-ghost use Rattle.parse.specs.Parse.{text_of, manufacturer_specific, manufacturer_specific_end, movement as movement_by, movement_parts, movement_of, moving_text_mode, moving_text_linear, moving_text, end_name, first_name, name_by, name_of, name_len, by_name, tag_value};
-ghost use Rattle.part.specs.Part.{past, holds};
+ghost use Rattle.parse.specs.Parse.{place_of, text_of, specific_of, manufacturer_specific, manufacturer_specific_end, movement_of, moving_text_mode, moving_text_linear, moving_text, end_name, first_name, name_by, name_of, name_len, by_name, tag_value};
+ghost use Rattle.part.specs.Part.{past};
 
-use number::Number;
-use tag::Parsed;
-use value::{Movement, MovingTextDirection, MovingTextMode, OptPlace, Place, Value};
-
-#[derive(Clone, Copy)]
-enum ReadMovement {
-    Read(Movement),
-    Wrong,
-}
+use value::{Movement, MovingTextDirection, MovingTextMode, Place, SyntaxError, Value};
 
 // The names of tags; F and G are followed by a number. Laws on tags name it.
 #[derive(Clone, Copy)]
@@ -39,201 +31,176 @@ pub enum Name {
     Sc,
     ScEnd,
     Tr,
-    Other,
 }
 
-// The text after the first comma, as a place in the message.
-fn text_of(p: &[u8], end: usize) -> OptPlace
-    requires { (length p.now ≤ end) × (end ≤ 65535) }
-    ensures { result ≡ text_of end p.now }
-{
-    if part::has(p, b',') {
-        let n = part::rest_part(p, b',').len();
-        return OptPlace::Some(Place {
-            start: (end - n) as u16,
-            len: n as u16,
-        });
+// The bytes of a tag from some place on. They end at its ], a place of the message.
+#[derive(Clone, Copy)]
+struct Rest<'a> {
+    bytes: &'a [u8],
+    end: u16,
+    ghost inside: { length bytes.now ≤ end },
+}
+
+impl<'a> Rest<'a> {
+    // From its byte n on.
+    fn tail(self, n: usize) -> Rest<'a>
+        ensures bytes { result.bytes.now ≡ drop n self.entry.bytes.now }
+        ensures end { result.end ≡ self.entry.end }
+    {
+        Rest {
+            bytes: part::tail(self.bytes, n),
+            end: self.end,
+        }
     }
-    OptPlace::None
+
+    // After its first comma.
+    #[tactic(auto, using(part::proofs::Laws::past_le))]
+    fn past_comma(self) -> Rest<'a>
+        ensures bytes { result.bytes.now ≡ past 44 self.entry.bytes.now }
+        ensures end { result.end ≡ self.entry.end }
+    {
+        Rest {
+            bytes: part::rest_part(self.bytes, b','),
+            end: self.end,
+        }
+    }
+
+    // All of it, as a place in the message.
+    fn place(self) -> Place
+        ensures { result ≡ place_of self.entry.end self.entry.bytes.now }
+    {
+        let len = self.bytes.len() as u16;
+        Place {
+            start: self.end - len,
+            len,
+        }
+    }
 }
 
-fn parse_manufacturer_specific(p: &[u8], end: usize) -> Parsed
-    requires { (length p.now ≤ end) × (end ≤ 65535) }
-    ensures { result ≡ manufacturer_specific end p.now }
+// The text after the first comma.
+#[tactic(auto, unfolding(crate::specs::Parse::text_of))]
+fn text_of(p: Rest) -> Option<Place>
+    ensures { result ≡ text_of p.entry.end p.entry.bytes.now }
 {
-    let Number::Is(m) = part::number_before(p, b',', 4294967295) else {
-        return Parsed::Bad;
-    };
-    Parsed::Good(Value::ManufacturerSpecific(m, text_of(p, end)))
+    part::has(p.bytes, b',').then_some(p.past_comma().place())
 }
 
-fn parse_manufacturer_specific_end(p: &[u8], end: usize) -> Parsed
-    requires { (length p.now ≤ end) × (end ≤ 65535) }
-    ensures { result ≡ manufacturer_specific_end end p.now }
+// The number of a manufacturer specific tag, and its text.
+fn specific(p: Rest) -> Option<(u32, Option<Place>)>
+    ensures { result ≡ specific_of p.entry.end p.entry.bytes.now }
 {
-    let Number::Is(m) = part::number_before(p, b',', 4294967295) else {
-        return Parsed::Bad;
-    };
-    Parsed::Good(Value::ManufacturerSpecificEnd(m, text_of(p, end)))
+    let m = part::number_before(p.bytes, b',', u32::MAX)?;
+    Some((m, text_of(p)))
 }
 
-fn movement(end: usize, w: &[u8], s: &[u8], d: &[u8], t: &[u8]) -> ReadMovement
-    requires { (length t.now ≤ end) × (end ≤ 65535) }
-    ensures { result ≡ movement_by end w.now s.now d.now t.now }
+#[tactic(auto, unfolding(crate::specs::Parse::manufacturer_specific))]
+fn parse_manufacturer_specific(p: Rest) -> Option<Value>
+    ensures { result ≡ manufacturer_specific p.entry.end p.entry.bytes.now }
 {
-    let Number::Is(a) = number::parse(w, 65535) else {
-        return ReadMovement::Wrong;
-    };
-    let Number::Is(b) = number::parse(s, 255) else {
-        return ReadMovement::Wrong;
-    };
-    let Number::Is(c) = number::parse(d, 255) else {
-        return ReadMovement::Wrong;
-    };
-    ReadMovement::Read(Movement {
-        width: a as u16,
-        pixels: b as u8,
-        deciseconds: c as u8,
-        text: Place {
-            start: (end - t.len()) as u16,
-            len: t.len() as u16,
-        },
+    let (m, text) = specific(p)?;
+    Some(Value::ManufacturerSpecific(m, text))
+}
+
+#[tactic(auto, unfolding(crate::specs::Parse::manufacturer_specific_end))]
+fn parse_manufacturer_specific_end(p: Rest) -> Option<Value>
+    ensures { result ≡ manufacturer_specific_end p.entry.end p.entry.bytes.now }
+{
+    let (m, text) = specific(p)?;
+    Some(Value::ManufacturerSpecificEnd(m, text))
+}
+
+// Of a moving text, after its direction's letter: three numbers, and the text with its commas.
+#[tactic(auto, unfolding(crate::specs::Parse::movement_of, crate::specs::Parse::movement_parts, crate::specs::Parse::movement))]
+fn movement_of(p: Rest) -> Option<Movement>
+    ensures { result ≡ movement_of p.entry.end p.entry.bytes.now }
+{
+    let q = p.past_comma();
+    let r = q.past_comma();
+    if !part::has(r.bytes, b',') {
+        return None;
+    }
+    let width = part::number_before(p.bytes, b',', 65535)?;
+    let pixels = part::number_before(q.bytes, b',', 255)?;
+    let deciseconds = part::number_before(r.bytes, b',', 255)?;
+    Some(Movement {
+        width: width as u16,
+        pixels: pixels as u8,
+        deciseconds: deciseconds as u8,
+        text: r.past_comma().place(),
     })
 }
 
-// The movement of four parts, the text with its commas.
-fn movement_parts(p: &[u8], end: usize) -> ReadMovement
-    requires { (length p.now ≤ end) × (end ≤ 65535) }
-    ensures { result ≡ movement_parts end p.now }
+#[tactic(auto, unfolding(crate::specs::Parse::moving_text_mode))]
+fn parse_moving_text_mode(mode: MovingTextMode, p: Rest) -> Option<Value>
+    ensures { result ≡ moving_text_mode p.entry.end mode p.entry.bytes.now }
 {
-    let q = part::rest_part(p, b',');
-    let r = part::rest_part(q, b',');
-    movement(
-        end,
-        part::first_part(p, b','),
-        part::first_part(q, b','),
-        part::first_part(r, b','),
-        part::rest_part(r, b','),
-    )
+    let direction = match part::letter_at(p.bytes, 0) {
+        b'l' => MovingTextDirection::Left,
+        b'r' => MovingTextDirection::Right,
+        _ => return None,
+    };
+    let movement = movement_of(p.tail(1))?;
+    Some(Value::MovingText(mode, direction, movement))
 }
 
-// Whether there are four parts.
-fn has_text(p: &[u8]) -> bool
-    ensures { result ≡ holds 44 (past 44 (past 44 p.now)) }
+// After [mvl: a digit, the delay, may come first.
+#[tactic(auto, unfolding(crate::specs::Parse::moving_text_linear))]
+fn parse_moving_text_linear(p: Rest) -> Option<Value>
+    ensures { result ≡ moving_text_linear p.entry.end p.entry.bytes.now }
 {
-    let q = part::rest_part(p, b',');
-    part::has(part::rest_part(q, b','), b',')
-}
-
-fn movement_of(p: &[u8], end: usize) -> ReadMovement
-    requires { (length p.now ≤ end) × (end ≤ 65535) }
-    ensures { result ≡ movement_of end p.now }
-{
-    if has_text(p) {
-        return movement_parts(p, end);
+    match p.bytes {
+        [d @ b'0'..=b'9', ..] => parse_moving_text_mode(
+            MovingTextMode::Linear(*d - b'0'),
+            p.tail(1),
+        ),
+        _ => parse_moving_text_mode(MovingTextMode::Linear(0), p),
     }
-    ReadMovement::Wrong
 }
 
-// The movement after the direction's letter.
-fn movement_after(p: &[u8], end: usize) -> ReadMovement
-    requires { (length p.now ≤ end) × (end ≤ 65535) }
-    ensures { result ≡ movement_of end (drop 1 p.now) }
+#[tactic(auto, unfolding(crate::specs::Parse::moving_text))]
+fn parse_moving_text(p: Rest) -> Option<Value>
+    ensures { result ≡ moving_text p.entry.end p.entry.bytes.now }
 {
-    movement_of(part::tail(p, 1), end)
+    match part::letter_at(p.bytes, 0) {
+        b'c' => parse_moving_text_mode(MovingTextMode::Circular, p.tail(1)),
+        b'l' => parse_moving_text_linear(p.tail(1)),
+        _ => None,
+    }
 }
 
-fn parse_moving_text_mode(m: MovingTextMode, p: &[u8], end: usize) -> Parsed
-    requires { (length p.now ≤ end) × (end ≤ 65535) }
-    ensures { result ≡ moving_text_mode end m p.now }
-{
-    let b = part::letter_at(p, 0);
-    if b == b'l' {
-        let ReadMovement::Read(t) = movement_after(p, end) else {
-            return Parsed::Bad;
-        };
-        return Parsed::Good(Value::MovingText(m, MovingTextDirection::Left, t));
-    }
-    if b == b'r' {
-        let ReadMovement::Read(t) = movement_after(p, end) else {
-            return Parsed::Bad;
-        };
-        return Parsed::Good(Value::MovingText(m, MovingTextDirection::Right, t));
-    }
-    Parsed::Bad
-}
-
-fn parse_moving_text_linear(p: &[u8], end: usize) -> Parsed
-    requires { (length p.now ≤ end) × (end ≤ 65535) }
-    ensures { result ≡ moving_text_linear end p.now }
-{
-    let b = base::byte_at(p, 0);
-    if 48 <= b {
-        if b <= 57 {
-            return parse_moving_text_mode(MovingTextMode::Linear(b - 48), part::tail(p, 1), end);
-        }
-        return parse_moving_text_mode(MovingTextMode::Linear(0), p, end);
-    }
-    parse_moving_text_mode(MovingTextMode::Linear(0), p, end)
-}
-
-fn parse_moving_text(p: &[u8], end: usize) -> Parsed
-    requires { (length p.now ≤ end) × (end ≤ 65535) }
-    ensures { result ≡ moving_text end p.now }
-{
-    let b = part::letter_at(p, 0);
-    if b == b'c' {
-        return parse_moving_text_mode(MovingTextMode::Circular, part::tail(p, 1), end);
-    }
-    if b == b'l' {
-        return parse_moving_text_linear(part::tail(p, 1), end);
-    }
-    Parsed::Bad
-}
-
-// A name after a /, its two letters as one number.
-fn end_name(k: u32) -> Name
+// A name after a /, by its two letters.
+#[tactic(auto, unfolding(crate::specs::Parse::end_name))]
+fn end_name(k: u16) -> Option<Name>
     ensures { result ≡ end_name k }
 {
-    if k == 0x7363 {
-        return Name::ScEnd;
+    match k {
+        0x7363 => Some(Name::ScEnd),
+        0x666c => Some(Name::FlEnd),
+        0x6d73 => Some(Name::MsEnd),
+        _ => None,
     }
-    if k == 0x666c {
-        return Name::FlEnd;
-    }
-    if k == 0x6d73 {
-        return Name::MsEnd;
-    }
-    Name::Other
 }
 
 // A name that is no name of two letters. Don't treat "fe" as a field.
-fn first_name(a: u32, b: u32, c: u32) -> Name
-    requires { (b ≤ 255) × (c ≤ 255) }
+#[tactic(auto, unfolding(crate::specs::Parse::first_name))]
+fn first_name(a: u8, b: u8, c: u8) -> Option<Name>
     ensures { result ≡ first_name a b c }
 {
-    if a == 0x66 {
-        if b == 0x65 {
-            return Name::Other;
-        }
-        return Name::F;
+    match a {
+        b'f' if b == b'e' => None,
+        b'f' => Some(Name::F),
+        b'g' => Some(Name::G),
+        b'/' => end_name(u16::from_be_bytes([b, c])),
+        _ => None,
     }
-    if a == 0x67 {
-        return Name::G;
-    }
-    if a == 0x2f {
-        return end_name(b * 256 + c);
-    }
-    Name::Other
 }
 
 // The first three bytes of a tag, in lower case.
-fn name_by(a: u32, b: u32, c: u32) -> Name
-    requires { (a ≤ 255) × (b ≤ 255) × (c ≤ 255) }
+#[tactic(auto, unfolding(crate::specs::Parse::name_by))]
+fn name_by(a: u8, b: u8, c: u8) -> Option<Name>
     ensures { result ≡ name_by a b c }
 {
-    let k = a * 256 + b;
-    match k {
+    let name = match u16::from_be_bytes([a, b]) {
         0x6e6c => Name::Nl,
         0x6e70 => Name::Np,
         0x666f => Name::Fo,
@@ -250,17 +217,19 @@ fn name_by(a: u32, b: u32, c: u32) -> Name
         0x666c => Name::Fl,
         0x6d76 => Name::Mv,
         0x6d73 => Name::Ms,
-        _ => first_name(a, b, c),
-    }
+        _ => return first_name(a, b, c),
+    };
+    Some(name)
 }
 
-fn name_of(tag: &[u8]) -> Name
+#[tactic(auto, unfolding(crate::specs::Parse::name_of))]
+fn name_of(tag: &[u8]) -> Option<Name>
     ensures { result ≡ name_of tag.now }
 {
     name_by(
-        base::wide32(part::letter_at(tag, 0)),
-        base::wide32(part::letter_at(tag, 1)),
-        base::wide32(part::letter_at(tag, 2)),
+        part::letter_at(tag, 0),
+        part::letter_at(tag, 1),
+        part::letter_at(tag, 2),
     )
 }
 
@@ -268,67 +237,51 @@ fn name_len(name: Name) -> usize
     ensures { result ≡ name_len name }
 {
     match name {
-        Name::Cb => 2,
-        Name::Cf => 2,
-        Name::Cr => 2,
-        Name::F => 1,
-        Name::Fl => 2,
-        Name::FlEnd => 3,
-        Name::Fo => 2,
-        Name::G => 1,
-        Name::Hc => 2,
-        Name::Jl => 2,
-        Name::Jp => 2,
-        Name::Ms => 2,
-        Name::MsEnd => 3,
-        Name::Mv => 2,
-        Name::Nl => 2,
-        Name::Np => 2,
-        Name::Pb => 2,
-        Name::Pt => 2,
-        Name::Sc => 2,
-        Name::ScEnd => 3,
-        Name::Tr => 2,
-        Name::Other => 0,
+        Name::F | Name::G => 1,
+        Name::FlEnd | Name::MsEnd | Name::ScEnd => 3,
+        _ => 2,
     }
 }
 
-// The bytes after a name, which end at a place of the message; long times may hold.
-fn by_name(name: Name, p: &[u8], end: usize, long: bool) -> Parsed
-    requires { (length p.now ≤ end) × (end ≤ 65535) }
-    ensures { result ≡ by_name long name end p.now }
+// The value of a name with the bytes after it; long times may hold.
+fn by_name(name: Name, p: Rest, long: bool) -> Option<Value>
+    ensures { result ≡ by_name long name p.entry.end p.entry.bytes.now }
 {
     match name {
-        Name::Cb => tag::parse_color_background(p),
-        Name::Cf => tag::parse_color_foreground(p),
-        Name::Cr => tag::parse_color_rectangle(p),
-        Name::F => tag::parse_field(p),
-        Name::Fl => tag::parse_flash_time(p),
-        Name::FlEnd => tag::parse_flash_end(p),
-        Name::Fo => tag::parse_font(p),
-        Name::G => tag::parse_graphic(p),
-        Name::Hc => tag::parse_hexadecimal_character(p),
-        Name::Jl => tag::parse_justification_line(p),
-        Name::Jp => tag::parse_justification_page(p),
-        Name::Ms => parse_manufacturer_specific(p, end),
-        Name::MsEnd => parse_manufacturer_specific_end(p, end),
-        Name::Mv => parse_moving_text(p, end),
-        Name::Nl => tag::parse_new_line(p),
-        Name::Np => tag::parse_new_page(p),
-        Name::Pb => tag::parse_page_background(p),
-        Name::Pt => tag::parse_page_time(p, long),
-        Name::Sc => tag::parse_spacing_character(p),
-        Name::ScEnd => tag::parse_spacing_character_end(p),
-        Name::Tr => tag::parse_text_rectangle(p),
-        Name::Other => Parsed::Unsupported,
+        Name::Cb => tag::parse_color_background(p.bytes),
+        Name::Cf => tag::parse_color_foreground(p.bytes),
+        Name::Cr => tag::parse_color_rectangle(p.bytes),
+        Name::F => tag::parse_field(p.bytes),
+        Name::Fl => tag::parse_flash_time(p.bytes),
+        Name::FlEnd => tag::parse_flash_end(p.bytes),
+        Name::Fo => tag::parse_font(p.bytes),
+        Name::G => tag::parse_graphic(p.bytes),
+        Name::Hc => tag::parse_hexadecimal_character(p.bytes),
+        Name::Jl => tag::parse_justification_line(p.bytes),
+        Name::Jp => tag::parse_justification_page(p.bytes),
+        Name::Ms => parse_manufacturer_specific(p),
+        Name::MsEnd => parse_manufacturer_specific_end(p),
+        Name::Mv => parse_moving_text(p),
+        Name::Nl => tag::parse_new_line(p.bytes),
+        Name::Np => tag::parse_new_page(p.bytes),
+        Name::Pb => tag::parse_page_background(p.bytes),
+        Name::Pt => tag::parse_page_time(p.bytes, long),
+        Name::Sc => tag::parse_spacing_character(p.bytes),
+        Name::ScEnd => tag::parse_spacing_character_end(p.bytes),
+        Name::Tr => tag::parse_text_rectangle(p.bytes),
     }
 }
 
 // A tag without its brackets, whose bytes end at a place of the message; long times may hold.
-pub fn parse_tag(tag: &[u8], end: usize, long: bool) -> Parsed
+#[tactic(auto, unfolding(crate::specs::Parse::tag_value))]
+pub fn parse_tag(tag: &[u8], end: usize, long: bool) -> Result<Value, SyntaxError>
     requires { (length tag.now ≤ end) × (end ≤ 65535) }
     ensures { result ≡ tag_value long end tag.now }
 {
-    let name = name_of(tag);
-    by_name(name, part::tail(tag, name_len(name)), end, long)
+    let name = name_of(tag).ok_or(SyntaxError::UnsupportedTag)?;
+    let rest = Rest {
+        bytes: tag,
+        end: end as u16,
+    };
+    by_name(name, rest.tail(name_len(name)), long).ok_or(SyntaxError::UnsupportedTagValue)
 }

@@ -1,10 +1,10 @@
 // A reader of the sign file: the lent bytes and a position. The work is done by `records::record_at`, on a slice and a number.
 #![tactic(auto)]
 
-ghost use Rattle.std.specs.Prelude.{◌≡◌};
+ghost use Rattle.std.specs.Prelude.{◌≡◌, ◌≤◌, length, IfSome};
 ghost use Rattle.records.specs.Record.{head_at};
 
-use records::Head;
+use records::Record;
 
 #[derive(Clone, Copy)]
 pub struct SignReader<'a> {
@@ -12,16 +12,20 @@ pub struct SignReader<'a> {
     pub at: usize,
 }
 
-// The record at the reader's position.
-fn next<'a>(r: SignReader<'a>) -> Head
-    ensures { result ≡ head_at r.entry.file.now r.entry.at }
-{
-    records::record_at(r.file, r.at)
+impl SignReader<'_> {
+    // The record at the reader's position.
+    fn next(&self) -> Option<Record>
+        ensures value { result ≡ head_at self.now.file.now self.now.at }
+        ensures inside { IfSome result (λ r. (r.start ≤ r.end) × (r.end ≤ length self.now.file.now)) }
+    {
+        records::record_at(self.file, self.at)
+    }
 }
 
 // The record at an offset, by a reader there.
-pub fn record_at(file: &[u8], at: usize) -> Head
-    ensures { result ≡ head_at file.now at }
+pub fn record_at(file: &[u8], at: usize) -> Option<Record>
+    ensures value { result ≡ head_at file.now at }
+    ensures inside { IfSome result (λ r. (r.start ≤ r.end) × (r.end ≤ length file.now)) }
 {
-    next(SignReader { file, at })
+    SignReader { file, at }.next()
 }

@@ -1,5 +1,5 @@
 -- Worked readings, by computation.
-use Rattle.std.specs.Prelude.{ℕ, ◌≡◌, [], ◌∷◌, true, false}
+use Rattle.std.specs.Prelude.{ℕ, ◌≡◌, [], ◌∷◌, true, false, Some, None}
 use Prim.Native.String.{String}
 use Rattle.base.specs.Text.{ascii}
 use Rattle.number.specs.Number.{digit_of, read_from, read_digits, read_number, version_id}
@@ -10,16 +10,11 @@ use Rattle.value.specs.declared.Color.TheVariants.{Legacy, Rgb}
 use Rattle.value.specs.declared.FlashOrder.TheVariants.{OnOff, OffOn}
 use Rattle.value.specs.declared.MovingTextDirection.TheVariants.{Left}
 use Rattle.value.specs.declared.MovingTextMode.TheVariants.{Linear}
-use Rattle.value.specs.declared.OptColor.TheVariants.{Some as SomeColor}
-use Rattle.value.specs.declared.OptFont.TheVariants.{Some as SomeFont}
-use Rattle.value.specs.declared.OptNum.TheVariants.{Some, None}
-use Rattle.value.specs.declared.OptPlace.TheVariants.{Some as SomePlace}
-use Rattle.value.specs.declared.OptPoint.TheVariants.{Some as SomePoint, None as NoPoint}
 use Rattle.value.specs.declared.Value.{Value}
 use Rattle.value.specs.declared.Value.TheVariants.{ColorForeground, ColorRectangle, Field, Flash, Font, Graphic, HexadecimalCharacter, JustificationLine, ManufacturerSpecific, MovingText, NewLine, NewPage, PageTime, SpacingCharacter, Text, TextRectangle}
-use Rattle.param.specs.Param.{number, optional, xy, rectangle, color, read_optional, optional_version, justification, read_xy, rectangle_of, read_rgb, rgb_of, color_of}
+use Rattle.param.specs.Param.{read_optional, optional_version, justification, read_xy, rectangle_of, read_rgb, rgb_of, color_of}
 use Rattle.tag.specs.Tag.{new_line, new_page, font, justification_line, justification_page, page_time, page_background, color_foreground, color_background, four_of, fifth, color_rectangle, last_four, text_rectangle, spacing_character, hexadecimal_character, flash_on, flash_off, flash_time, field, point_of, graphic_at, graphic, spacing_character_end, flash_end}
-use Rattle.parse.specs.Parse.{text_of, manufacturer_specific, manufacturer_specific_end, movement, movement_parts, movement_of, moved, moving_text_mode, moving_text_linear, moving_text, end_name, first_name, name_by, name_of, tag_value}
+use Rattle.parse.specs.Parse.{text_of, manufacturer_specific, manufacturer_specific_end, movement, movement_parts, movement_of, moving_text_mode, moving_text_linear, moving_text, end_name, first_name, name_by, name_of, tag_value}
 use Rattle.reading.specs.declared.Reading.TheVariants.{Slice, End}
 use Rattle.reading.specs.Reading.{place, refused, tag_item, text_item, item_of, slice_reading, reading_at, reading}
 
@@ -49,7 +44,7 @@ pub record Examples : Type 0 where
   pub lines : is "[NL5]" 5 (NewLine (Some 5))
   pub two_digits : fails "[nl10]" 6 6
   pub font_0 : fails "[fo0]" 5 6
-  pub font_id : is "[fo1,+0fF]" 10 (Font (SomeFont 1 (Some 255)))
+  pub font_id : is "[fo1,+0fF]" 10 (Font (Some (1, Some 255)))
   pub font_short : fails "[fo1,0ff]" 9 6
   pub no_code : fails "[hc]" 4 6
   pub code : is "[hc+41]" 7 (HexadecimalCharacter 65)
@@ -65,28 +60,28 @@ pub record Examples : Type 0 where
   pub rect : is "[tr1,2,0,65535]" 15 (TextRectangle (record { x = 1; y = 2; width = 0; height = 65535 }))
   pub rect_0 : fails "[tr0,1,1,1]" 11 6
   pub rect_five : fails "[tr1,1,1,1,1]" 13 6
-  pub fore : is "[cf1,2,3]" 9 (ColorForeground (SomeColor (Rgb 1 2 3)))
+  pub fore : is "[cf1,2,3]" 9 (ColorForeground (Some (Rgb 1 2 3)))
   pub two_colors : fails "[cf1,2]" 7 6
   pub color_rect : is "[cr1,1,2,2,7]" 13 (ColorRectangle (record { x = 1; y = 1; width = 2; height = 2 }) (Legacy 7))
   pub field_0 : is "[f0]" 4 (Field 0 None)
   pub field_13 : is "[F13,]" 6 (Field 13 None)
   pub field_14 : fails "[f14]" 5 6
-  pub graphic_1 : is "[g1]" 4 (Graphic 1 NoPoint)
+  pub graphic_1 : is "[g1]" 4 (Graphic 1 None)
   pub graphic_2 : fails "[g1,2]" 6 6
-  pub graphic_3 : is "[g1,2,3,abcd]" 13 (Graphic 1 (SomePoint 2 3 (Some 43981)))
+  pub graphic_3 : is "[g1,2,3,abcd]" 13 (Graphic 1 (Some (2, 3, Some 43981)))
   pub graphic_empty : fails "[g1,,]" 6 6
   pub flash : is "[flt5o]" 7 (Flash OnOff (Some 5) None)
   pub flash_off_read : is "[FLOT9]" 7 (Flash OffOn None (Some 9))
-  pub specific : is "[ms1,a,b]" 9 (ManufacturerSpecific 1 (SomePlace (place 5 3)))
+  pub specific : is "[ms1,a,b]" 9 (ManufacturerSpecific 1 (Some (place 5 3)))
   pub moving : is "[mvl3L10,1,2,a,b]" 17 (MovingText (Linear 3) Left (record { width = 10; pixels = 1; deciseconds = 2; text = place 13 3 }))
   pub no_text : fails "[mvcl1,1,1]" 11 6
 
 pub examples : Examples
 unfolding digit_of read_from read_digits read_number version_id first extra low high fits after_byte well_formed_from well_formed code_of codes_from codes all_latin1
-    continues inside_character plain_len tag_len rest_len slice_len is_pair last_byte shape_of lower up_to past_sep holds number optional xy rectangle color
+    continues inside_character plain_len tag_len rest_len slice_len is_pair last_byte shape_of lower up_to past_sep holds
     read_optional optional_version justification read_xy rectangle_of read_rgb rgb_of color_of new_line new_page font justification_line justification_page
     page_time page_background color_foreground color_background four_of fifth color_rectangle last_four text_rectangle spacing_character hexadecimal_character
     flash_on flash_off flash_time field point_of graphic_at graphic spacing_character_end flash_end text_of manufacturer_specific manufacturer_specific_end movement
-    movement_parts movement_of moved moving_text_mode moving_text_linear moving_text end_name first_name name_by name_of tag_value tag_item text_item item_of
+    movement_parts movement_of moving_text_mode moving_text_linear moving_text end_name first_name name_by name_of tag_value tag_item text_item item_of
     slice_reading reading_at reading
 examples = search

@@ -2,19 +2,11 @@
 #![tactic(auto)]
 
 ghost use Rattle.std.specs.Prelude.{◌≡◌, ◌+◌, ◌≤◌, ◌<◌, length};
-ghost use Rattle.reading.specs.Reading.{parsed_item, tag_item, text_item, item_of, refused, slice_reading, reading_at, reading};
+ghost use Rattle.reading.specs.Reading.{place as place_of, tag_item, text_item, item_of, refused, slice_reading, reading_at, reading};
 
 use refusal::Refusal;
-use tag::Parsed;
 use token::Shape;
-use value::{Place, Value};
-
-// What a slice says: its value, or the number of its refusal.
-#[derive(Clone, Copy)]
-pub enum Said {
-    Is(Value),
-    Fails(u8),
-}
+use value::{Place, SyntaxError, Value};
 
 // The slice at the offset and its value, the end of the message, or a refusal.
 #[derive(Clone, Copy)]
@@ -24,56 +16,92 @@ pub enum Reading {
     Refused(Refusal),
 }
 
-fn parsed_item(p: Parsed) -> Said
-    ensures { result ≡ parsed_item p }
-{
-    match p {
-        Parsed::Good(v) => Said::Is(v),
-        Parsed::Unsupported => Said::Fails(5),
-        Parsed::Bad => Said::Fails(6),
+// A slice of a message, by its bytes and the place where it starts.
+#[derive(Clone, Copy)]
+struct Slice<'a> {
+    bytes: &'a [u8],
+    at: u16,
+    ghost within: { at + length bytes.now ≤ 65535 },
+}
+
+impl Slice<'_> {
+    fn place(self) -> Place
+        ensures { result ≡ place_of self.entry.at (length self.entry.bytes.now) }
+    {
+        Place {
+            start: self.at,
+            len: self.bytes.len() as u16,
+        }
+    }
+
+    // From [ to ].
+    #[tactic(auto, unfolding(crate::specs::Reading::tag_item))]
+    fn tag_item(self, long: bool) -> Result<Value, SyntaxError>
+        ensures { result ≡ tag_item long self.entry.at self.entry.bytes.now }
+    {
+        match self.bytes {
+            [_, tag @ .., _] => {
+                parse::parse_tag(tag, usize::from(self.at) + self.bytes.len() - 1, long)
+            }
+            _ => Err(SyntaxError::UnsupportedTag),
+        }
+    }
+
+    #[tactic(auto, unfolding(crate::specs::Reading::text_item))]
+    fn text_item(self) -> Result<Value, SyntaxError>
+        ensures { result ≡ text_item self.entry.at self.entry.bytes.now }
+    {
+        if utf8::latin1(self.bytes) {
+            Ok(Value::Text(self.place()))
+        } else {
+            Err(SyntaxError::Other)
+        }
+    }
+
+    // `Value::try_from`; long times may hold.
+    #[tactic(auto, unfolding(crate::specs::Reading::item_of))]
+    fn item(self, long: bool) -> Result<Value, SyntaxError>
+        ensures { result ≡ item_of long self.entry.at self.entry.bytes.now }
+    {
+        match token::shape_of(self.bytes) {
+            Shape::Bracket => Ok(Value::Text(Place {
+                start: self.at,
+                len: 1,
+            })),
+            Shape::Tag => self.tag_item(long),
+            Shape::Stray => Err(SyntaxError::UnsupportedTag),
+            Shape::Text => self.text_item(),
+        }
+    }
+
+    // What the reading call answers of it.
+    #[tactic(auto, unfolding(crate::specs::Reading::slice_reading))]
+    fn reading(self, long: bool) -> Reading
+        ensures { result ≡ slice_reading long self.entry.at self.entry.bytes.now }
+    {
+        let place = self.place();
+        match self.item(long) {
+            Ok(v) => Reading::Slice(place, v),
+            Err(e) => Reading::Refused(Refusal {
+                number: e.number(),
+                start: place.start,
+                length: place.len,
+                detail: 0,
+            }),
+        }
     }
 }
 
-// A slice from [ to ].
-fn tag_item(at: usize, s: &[u8], long: bool) -> Said
-    requires { at + length s.now ≤ 65535 }
-    ensures { result ≡ tag_item long at s.now }
-{
-    if 2 <= s.len() {
-        let last = s.len() - 1;
-        return parsed_item(parse::parse_tag(&s[1..last], at + last, long));
-    }
-    Said::Fails(5)
-}
-
-fn text_item(at: usize, s: &[u8]) -> Said
-    requires { at + length s.now ≤ 65535 }
-    ensures { result ≡ text_item at s.now }
-{
-    if utf8::latin1(s) {
-        return Said::Is(Value::Text(Place {
-            start: at as u16,
-            len: s.len() as u16,
-        }));
-    }
-    Said::Fails(7)
-}
-
-// `Value::try_from`: the slice s, which starts at a place of the message; long times may hold.
-pub fn item_of(at: usize, s: &[u8], long: bool) -> Said
+// The value of the slice s, which starts at a place of the message; long times may hold.
+pub fn item_of(at: usize, s: &[u8], long: bool) -> Result<Value, SyntaxError>
     requires { at + length s.now ≤ 65535 }
     ensures { result ≡ item_of long at s.now }
 {
-    let shape = token::shape_of(s);
-    match shape {
-        Shape::Bracket => Said::Is(Value::Text(Place {
-            start: at as u16,
-            len: 1,
-        })),
-        Shape::Tag => tag_item(at, s, long),
-        Shape::Stray => Said::Fails(5),
-        Shape::Text => text_item(at, s),
-    }
+    let slice = Slice {
+        bytes: s,
+        at: at as u16,
+    };
+    slice.item(long)
 }
 
 // A refusal of the whole message or of the offset.
@@ -88,35 +116,22 @@ fn refuse(number: u8) -> Reading
     })
 }
 
-// The slice s, which starts at a place of the message.
-fn slice_reading(at: usize, s: &[u8], long: bool) -> Reading
-    requires { at + length s.now ≤ 65535 }
-    ensures { result ≡ slice_reading long at s.now }
-{
-    let item = item_of(at, s, long);
-    let start = at as u16;
-    let len = s.len() as u16;
-    match item {
-        Said::Is(v) => Reading::Slice(Place { start, len }, v),
-        Said::Fails(number) => Reading::Refused(Refusal {
-            number,
-            start,
-            length: len,
-            detail: 0,
-        }),
-    }
-}
-
 // The slice at the offset of a message that was looked at.
+#[tactic(auto, using(token::proofs::Laws::next_le, token::proofs::Laws::next_from), unfolding(crate::specs::Reading::reading_at))]
 fn reading_at(msg: &[u8], offset: usize, long: bool) -> Reading
     requires { (offset < length msg.now) × (length msg.now ≤ 2048) }
     ensures { result ≡ reading_at long msg.now offset }
 {
     let end = token::slice_end(msg, offset);
-    slice_reading(offset, &msg[offset..end], long)
+    let slice = Slice {
+        bytes: &msg[offset..end],
+        at: offset as u16,
+    };
+    slice.reading(long)
 }
 
 // Reading: message, offset, and whether long times hold.
+#[tactic(auto, unfolding(crate::specs::Reading::reading))]
 pub fn read(msg: &[u8], offset: usize, long: bool) -> Reading
     ensures { result ≡ reading long msg.now offset }
 {
@@ -126,10 +141,7 @@ pub fn read(msg: &[u8], offset: usize, long: bool) -> Reading
     if !utf8::well_formed(msg) {
         return refuse(3);
     }
-    if msg.len() < offset {
-        return refuse(4);
-    }
-    if utf8::inside_character(msg, offset) {
+    if msg.len() < offset || utf8::inside_character(msg, offset) {
         return refuse(4);
     }
     if offset == msg.len() {

@@ -1,27 +1,26 @@
 -- The ways out of the readers of records, and how a record that was read cuts the file.
-use Prim.Native.Nat.{ℕ, zero, suc, ◌+◌, ◌-◌, ◌*◌, ◌/◌, ◌^◌, ◌≤◌, ◌<◌}
+use Prim.Native.Nat.{ℕ, zero, suc, ◌+◌, ◌-◌, ◌*◌, ◌^◌, ◌≤◌, ◌<◌, min}
 use mathlib.Core.Path.{◌≡◌, refl, sym, ◌∙◌, ap}
 use mathlib.Core.List.{List, [], ◌∷◌}
-use mathlib.Core.Bool.{Bool, true, false, not}
+use mathlib.Core.Bool.{Bool, true, false}
 use native.Mathlib.Nat.{add-zero, add-suc, add_assoc, mul_assoc, mul_left_comm, pow-suc, one-mul, zero-add, suc-add}
 use native.Mathlib.Omega.{arith}
-use lib.Dec.{leb}
-use lib.Bits.{bit_and, and_mask}
-use lib.ListN.{length, take, drop, drop_of_length-le, length-drop}
+use Rattle.std.proofs.Math.Dec.{lit<}
+use lib.Dec.{leb, eqb}
+use lib.Bits.{bit_and}
+use Rattle.std.specs.Prelude.{Option, Some, None, nat_eq}
+use Rattle.std.specs.Int.{w32}
+use Rattle.std.specs.Cmp.{both_ways}
+use Rattle.std.proofs.lemmas.Nat.{and_le_l}
+use Rattle.std.proofs.lemmas.Nat.Bits.{bit_at_and, bit_at_not, bit_at-zero, bit_at-lt, same_from_bits_below}
+use lib.ListN.{length, get_or, take, drop, drop_of_length-le, length-drop}
 use lib.Seq.{drop-drop, get_or-drop}
-use borrow.Author.Tests.{leb-true, lt-leb, le-leb, le-ltb, lt-ltb, eq-eqb, ne_eqb, not-true, not-false}
-use Rattle.base.specs.Pick.{pick, picks}
+use borrow.Author.Tests.{eqb-true, eqb-false, leb-true, leb-false, lt-leb, le-leb, eq-eqb}
+use Rattle.base.specs.Pick.{pick}
 use Rattle.base.specs.Lists.{past_end}
-use Rattle.records.specs.Record.{all, little_at, body_len, kind_of, whole, Record, CutShort, first_piece, rest_len, cut_from, pieces, pieces_at, head_at}
-use Rattle.records.specs.Config.{config_with, config_of, config_ok, is_config, first_of, not_zero, mask, bit, bits_ok, tags_ok}
-use Rattle.records.specs.declared.Config.{Config}
-use Rattle.records.specs.declared.First.TheVariants.{Is, Refused}
-use Rattle.records.specs.declared.Head.{Head}
-use Rattle.records.specs.declared.Head.TheVariants.{Whole, Short}
-
--- for what cannot be: `cc` shows that two constructors would be equal
-pub never : {A : Type 0} → ◌≡◌ {A = ℕ} 0 1 → A
-never z = absurd (omega arith)
+use Rattle.records.specs.Record.{all, little_at, body_len, kind_of, whole, Record, CutShort, first_piece, rest_len, cut_from, pieces, pieces_at, head_of, head_at}
+use Rattle.records.specs.Config.{mask, bit, bits_ok, tags_ok}
+use Rattle.records.specs.declared.Record.{Record as Head}
 
 -- each of the tests holds
 abbrev pub Tests : List Bool → Type 0
@@ -32,7 +31,7 @@ pub tests : (ts : List Bool) → all ts ≡ true → Tests ts
 tests [] e = tt
 tests (t ∷ []) e = (e, tt)
 tests (true ∷ u ∷ ts) e = (refl, tests (u ∷ ts) e)
-tests (false ∷ u ∷ ts) e = never (let z : ◌≡◌ {A = ℕ} 0 1 = cc in z)
+tests (false ∷ u ∷ ts) e = cc
 
 -- m bytes and n bytes after them
 pub little_join : (m n k : ℕ) (l : List ℕ) → little_at m k l + 256 ^ m * little_at n (k + m) l ≡ little_at (m + n) k l
@@ -55,98 +54,76 @@ unfolding little_at
 little_past zero at l h = refl
 little_past (suc n) at l h = omega (arith, past_end l at h, little_past n (at + 1) l (omega arith))
 
--- four bytes are two words
-pub little_words : (a b x y at : ℕ) (l : List ℕ) → a ≡ x → b ≡ y → x ≡ little_at 2 at l → y ≡ little_at 2 (at + 2) l → a + 65536 * b ≡ little_at 4 at l
-little_words a b x y at l p q d e = rw (p, q, d, e) (little_join 2 2 at l)
+-- a place that is stopped at the greatest index is past the end, as the place itself is
+pub stopped : (n k at place : ℕ) (l : List ℕ) → length l < 2 ^ 64 → place ≡ min (at + k) 18446744073709551615 → little_at n place l ≡ little_at n (at + k) l
+stopped n k at place l h e = go (leb (at + k) 18446744073709551615) refl
+  where
+    go : (t : Bool) → leb (at + k) 18446744073709551615 ≡ t → little_at n place l ≡ little_at n (at + k) l
+    go true q = let m : place ≡ at + k = omega (arith, leb-true (at + k) 18446744073709551615 q) in rw m
+    go false q =
+        sym (little_past n place l (omega (arith, leb-false (at + k) 18446744073709551615 q)))
+        ∙ little_past n (at + k) l (omega (arith, leb-false (at + k) 18446744073709551615 q))
+
+-- one byte and one byte after it, two bytes and two
+pub little_bytes : (a b at place : ℕ) (l : List ℕ) → length l < 2 ^ 64 → place ≡ min (at + 1) 18446744073709551615 → a ≡ get_or l at 0 → b ≡ get_or l place 0
+    → a + b * 256 ≡ little_at 2 at l
+unfolding little_at
+little_bytes a b at place l h e p q = omega (arith, stopped 1 1 at place l h e)
+
+pub little_words : (a b at place : ℕ) (l : List ℕ) → length l < 2 ^ 64 → place ≡ min (at + 2) 18446744073709551615 → a ≡ little_at 2 at l
+    → b ≡ little_at 2 place l
+    → a + 65536 * b ≡ little_at 4 at l
+little_words a b at place l h e p q = rw (p, q, stopped 2 2 at place l h e) (little_join 2 2 at l)
 
 little_drop : (n k at : ℕ) (l : List ℕ) → little_at n k (drop at l) ≡ little_at n (at + k) l
 unfolding little_at
 little_drop zero k at l = refl
 little_drop (suc n) k at l = rw (get_or-drop at l k 0, little_drop n (k + 1) at l, add_assoc at k 1)
 
--- the values that were read
-pub config_made : (w h t : ℕ) (body : List ℕ) → w ≡ little_at 2 0 body → h ≡ little_at 2 2 body → t ≡ little_at 4 11 body → config_with w h t body ≡ config_of body
-unfolding config_of
-config_made w h t body p q r = rw (p, q, r)
-
--- a test that a call answered, denied in the code
-pub flag_not : (s t : Bool) → s ≡ t → not s ≡ true → t ≡ false
-flag_not s t e p = sym e ∙ not-true s p
-
-pub flag_was : (s t : Bool) → s ≡ t → not s ≡ false → t ≡ true
-flag_was s t e p = sym e ∙ not-false s p
-
-pub zero_no : (n : ℕ) → n ≡ 0 → not_zero n ≡ false
-unfolding not_zero
-zero_no n p = le-ltb 0 n (omega arith)
-
-pub zero_yes : (n : ℕ) → (n ≡ 0 → ⊥) → not_zero n ≡ true
-unfolding not_zero
-zero_yes n p = lt-ltb 0 n (omega arith)
-
-pub ruleset denied = (flag_not, flag_was, zero_no, zero_yes)
-
--- the first record
-module _ (kind : ℕ) (body : List ℕ) where
-  pub first_kind : (kind ≡ 1 → ⊥) → Refused ≡ first_of kind body
-  unfolding first_of is_config
-  first_kind n = rw (ne_eqb kind 1 n)
-
-  module _ (k : kind ≡ 1) where
-    pub first_length : (length body ≡ 15 → ⊥) → Refused ≡ first_of kind body
-    unfolding first_of is_config
-    first_length n = rw (eq-eqb kind 1 k, ne_eqb (length body) 15 n)
-
-    module _ (l : length body ≡ 15) (c : Config) (e : c ≡ config_of body) (r : Bool) (f : r ≡ config_ok c) where
-      test : is_config kind body ≡ r
-      unfolding is_config
-      test = rw (eq-eqb kind 1 k, eq-eqb (length body) 15 l, f, e)
-
-      pub first_bad : r ≡ false → Refused ≡ first_of kind body
-      unfolding first_of
-      first_bad p = rw (test, p)
-
-      pub first_good : r ≡ true → Is c ≡ first_of kind body
-      unfolding first_of
-      first_good p = rw (test, p, e)
-
-pub ruleset first_ways = (first_kind, first_length, first_bad, first_good)
-
--- the bits from k on: the loop's next one
-module _ (k : ℕ) (tags : ℕ) (h : k < 32) where
-  more : 32 - k ≡ suc (32 - (k + 1))
-  more = omega arith
-
-  module _ (inv : bits_ok (32 - k) k tags ≡ tags_ok tags) where
-    pub bits_on : bit_and (tags / 2 ^ k) 1 ≤ bit_and (mask / 2 ^ k) 1 → bits_ok (32 - (k + 1)) (k + 1) tags ≡ tags_ok tags
-    unfolding bits_ok
-    bits_on p =
-        let q : bit k tags ≤ bit k mask = rw (and_mask (tags / 2 ^ k) 1, and_mask (mask / 2 ^ k) 1) at p in
-        let step : bits_ok (32 - (k + 1)) (k + 1) tags ≡ bits_ok (32 - k) k tags = rw more (search picks depth 6) in
-        step ∙ inv
-
-    pub bits_bad : bit_and (mask / 2 ^ k) 1 < bit_and (tags / 2 ^ k) 1 → false ≡ tags_ok tags
-    unfolding bits_ok
-    bits_bad p =
-        let q : bit k mask < bit k tags = rw (and_mask (tags / 2 ^ k) 1, and_mask (mask / 2 ^ k) 1) at p in
-        let step : false ≡ bits_ok (32 - k) k tags = rw more (search picks depth 6) in
-        step ∙ inv
-
-pub bits_start : (tags : ℕ) → bits_ok (32 - 0) 0 tags ≡ tags_ok tags
-unfolding tags_ok
-bits_start tags = refl
-
-pub bits_end : (k tags : ℕ) → 32 ≤ k → bits_ok (32 - k) k tags ≡ tags_ok tags → true ≡ tags_ok tags
+-- of n bits from k on none is set that is not in the mask
+pub bits_known : (n k tags j : ℕ) → bits_ok n k tags ≡ true → k ≤ j → j < k + n → bit j tags ≤ bit j mask
 unfolding bits_ok
-bits_end k tags h inv = step ∙ inv
+bits_known zero k tags j e p q = absurd (omega arith)
+bits_known (suc n) k tags j e p q = go (leb (bit k tags) (bit k mask)) (eqb k j) refl refl (bits_known n (k + 1) tags j) e
   where
-    none : 32 - k ≡ 0
-    none = omega arith
+    go : (t u : Bool) → leb (bit k tags) (bit k mask) ≡ t → eqb k j ≡ u
+        → (bits_ok n (k + 1) tags ≡ true → k + 1 ≤ j → j < k + 1 + n → bit j tags ≤ bit j mask) → pick t (bits_ok n (k + 1) tags) false ≡ true
+        → bit j tags ≤ bit j mask
+    go true true a b f r = rw (← eqb-true k j b) (leb-true (bit k tags) (bit k mask) a)
+    go true false a b f r =
+        let no : k ≡ j → ⊥ = eqb-false k j b in
+        f r (omega arith) (omega arith)
+    go false u a b f r = cc
 
-    step : true ≡ bits_ok (32 - k) k tags
-    step = rw none
+bits_made : (n k tags : ℕ) → ((j : ℕ) → k ≤ j → j < k + n → bit j tags ≤ bit j mask) → bits_ok n k tags ≡ true
+unfolding bits_ok
+bits_made zero k tags h = refl
+bits_made (suc n) k tags h =
+    rw (le-leb (bit k tags) (bit k mask) (h k (omega arith) (omega arith))) (bits_made n (k + 1) tags (λ j p q. h j (omega arith) (omega arith)))
 
-pub ruleset bit_ways = (bits_on, bits_bad, bits_start, bits_end)
+-- the bits outside the mask
+abbrev outside : ℕ → ℕ
+outside tags = bit_and tags 4160733975
+
+module _ (tags k : ℕ) (h : k < 32) where
+  outside_bit : bit k (outside tags) ≡ min (bit k tags) (1 - bit k mask)
+  outside_bit = bit_at_and tags 4160733975 k ∙ ap (min (bit k tags)) (bit_at_not w32 mask k (lit< tt) h)
+
+  in_mask : bit k (outside tags) ≡ 0 → bit k tags ≤ bit k mask
+  in_mask e = omega (arith, outside_bit, bit_at-lt tags k, bit_at-lt mask k)
+
+  out_none : bit k tags ≤ bit k mask → bit k (outside tags) ≡ 0
+  out_none e = omega (arith, outside_bit, bit_at-lt tags k, bit_at-lt mask k)
+
+-- `tags_ok`: none of them is set
+pub mask_test : (tags : ℕ) → tags < 2 ^ 32 → nat_eq (outside tags) 0 ≡ tags_ok tags
+unfolding tags_ok
+mask_test tags h =
+    both_ways (eqb (outside tags) 0) (bits_ok 32 0 tags)
+    (λ p. bits_made 32 0 tags (λ k i j. in_mask tags k j (rw (eqb-true (outside tags) 0 p) (bit_at-zero k))))
+    (λ q. eq-eqb (outside tags) 0
+    (same_from_bits_below 32 (outside tags) 0 (omega (arith, and_le_l tags 4160733975)) (lit< tt)
+    (λ k j. out_none tags k j (bits_known 32 0 tags k q (omega arith) j) ∙ sym (bit_at-zero k))))
 
 module _ (file : List ℕ) (at : ℕ) where
   body_is : body_len (drop at file) ≡ little_at 2 at file
@@ -161,24 +138,22 @@ module _ (file : List ℕ) (at : ℕ) where
   unfolding whole
   whole_is = rw (length-drop at file, body_is)
 
-  pub head_past : length file < at → Short ≡ head_at file at
+  pub head_cut : (start : ℕ) → length file < start → start ≤ at + 4 → None ≡ head_at file at
   unfolding head_at
-  head_past h = rw (whole_is, lt-leb 4 (length file - at) (omega arith))
+  head_cut start h p = rw (whole_is, lt-leb 4 (length file - at) (omega arith))
 
-  pub head_cut : length file - at < 4 → Short ≡ head_at file at
-  unfolding head_at
-  head_cut h = rw (whole_is, lt-leb 4 (length file - at) h)
-
-  module _ (n : ℕ) (e : n ≡ little_at 2 at file) (h : at ≤ length file) (r : 4 ≤ length file - at) where
-    pub body_cut : length file < at + 4 + n → Short ≡ head_at file at
+  module _ (n : ℕ) (e : n ≡ little_at 2 at file) (h : at + 4 ≤ length file) where
+    pub body_cut : length file < at + 4 + n → None ≡ head_at file at
     unfolding head_at
-    body_cut p = rw (whole_is, ← e, le-leb 4 (length file - at) r, lt-leb (4 + n) (length file - at) (omega arith))
+    body_cut p = rw (whole_is, ← e, le-leb 4 (length file - at) (omega arith), lt-leb (4 + n) (length file - at) (omega arith))
 
-    pub head_whole : (k : ℕ) → k ≡ little_at 2 (at + 2) file → at + 4 + n ≤ length file → Whole k (at + 4) (at + 4 + n) ≡ head_at file at
+    pub head_whole : (k start end : ℕ) → k ≡ little_at 2 (at + 2) file → start ≡ at + 4 → end ≡ at + 4 + n → end ≤ length file
+        → Some (record { kind = k; start = start; end = end }) ≡ head_at file at
     unfolding head_at
-    head_whole k d p = rw (whole_is, body_is, kind_is, ← e, ← d, le-leb 4 (length file - at) r, le-leb (4 + n) (length file - at) (omega arith))
+    head_whole k start end d p q r =
+        rw (whole_is, body_is, kind_is, ← e, ← d, p, q, le-leb 4 (length file - at) (omega arith), le-leb (4 + n) (length file - at) (omega arith))
 
-pub ruleset head_ways = (head_past, head_cut, body_cut, head_whole)
+pub ruleset head_ways = (head_cut, body_cut, head_whole)
 
 -- bytes to skip are bytes dropped
 pub skips : (at k : ℕ) (l : List ℕ) → cut_from at k l ≡ cut_from (at + k) 0 (drop k l)
@@ -200,34 +175,35 @@ room l e =
     (leb-true 4 (length l) ok.0, leb-true (4 + body_len l) (length l) ok.1.0)
 
 -- the records from an offset on where one is whole
-module _ (file : List ℕ) (at kind start end : ℕ) (e : head_at file at ≡ Whole kind start end) where
-  told : (whole (drop at file) ≡ true) × (kind_of (drop at file) ≡ kind) × (at + 4 ≡ start) × (at + 4 + body_len (drop at file) ≡ end)
+module _ (file : List ℕ) (at : ℕ) (h : Head) (e : head_at file at ≡ Some h) where
+  told : (whole (drop at file) ≡ true) × (kind_of (drop at file) ≡ h.kind) × (at + 4 ≡ h.start) × (at + 4 + body_len (drop at file) ≡ h.end)
   unfolding head_at
   told = go (whole (drop at file)) refl e
     where
-      go : (t : Bool) → whole (drop at file) ≡ t
-          → pick t (Whole (kind_of (drop at file)) (at + 4) (at + 4 + body_len (drop at file))) Short ≡ Whole kind start end
-          → (whole (drop at file) ≡ true) × (kind_of (drop at file) ≡ kind) × (at + 4 ≡ start) × (at + 4 + body_len (drop at file) ≡ end)
-      go true p q = (p, (cc), (cc), (cc))
-      go false p q = never (let z : ◌≡◌ {A = ℕ} 0 1 = cc in z)
+      go : (t : Bool) → whole (drop at file) ≡ t → pick t (Some (head_of at (drop at file))) None ≡ Some h
+          → (whole (drop at file) ≡ true) × (kind_of (drop at file) ≡ h.kind) × (at + 4 ≡ h.start) × (at + 4 + body_len (drop at file) ≡ h.end)
+      go true p q =
+          let same : head_of at (drop at file) ≡ h = cc in
+          (p, ap (λ (x : Head). x.kind) same, ap (λ (x : Head). x.start) same, ap (λ (x : Head). x.end) same)
+      go false p q = cc
 
   -- a whole record lies within the file
-  pub head_start : start ≡ at + 4
+  pub head_start : h.start ≡ at + 4
   head_start = omega (arith, told.2)
 
-  pub head_from : start ≤ end
+  pub head_from : h.start ≤ h.end
   head_from = omega (arith, told.2, told.3)
 
-  pub head_to : end ≤ length file
+  pub head_to : h.end ≤ length file
   head_to = omega (arith, told.3, (room (drop at file) told.0).0, (room (drop at file) told.0).1, length-drop at file)
 
 -- the same, as a call of `record_at` answers it
-module _ (file : List ℕ) (at : ℕ) (s : Head) (p : s ≡ head_at file at) (kind start end : ℕ) (q : s ≡ Whole kind start end) where
-  pub span_from_law : start ≤ end
-  span_from_law = head_from file at kind start end (sym p ∙ q)
+module _ (file : List ℕ) (at : ℕ) (s : Option Head) (p : s ≡ head_at file at) (h : Head) (q : s ≡ Some h) where
+  pub span_from_law : h.start ≤ h.end
+  span_from_law = head_from file at h (sym p ∙ q)
 
-  pub span_to : end ≤ length file
-  span_to = head_to file at kind start end (sym p ∙ q)
+  pub span_to : h.end ≤ length file
+  span_to = head_to file at h (sym p ∙ q)
 
 pub ruleset spans = (span_from_law, span_to)
 
@@ -238,16 +214,16 @@ cut_head at [] h = absurd (omega arith)
 cut_head at (b ∷ l) h = rw (add-suc at (rest_len (b ∷ l)), ← suc-add at (rest_len (b ∷ l)), skips (suc at) (rest_len (b ∷ l)) l)
 
 -- a record that is whole: what stands in it, and the records past it
-pub pieces_next : (file : List ℕ) (at kind start end : ℕ) → head_at file at ≡ Whole kind start end
-    → pieces_at file at ≡ Record at kind (take (end - start) (drop start file)) ∷ pieces_at file end
+pub pieces_next : (file : List ℕ) (at : ℕ) (h : Head) → head_at file at ≡ Some h
+    → pieces_at file at ≡ Record at h.kind (take (h.end - h.start) (drop h.start file)) ∷ pieces_at file h.end
 unfolding pieces_at
-pieces_next file at kind start end e = cut_head at l some ∙ both
+pieces_next file at h e = cut_head at l some ∙ both
   where
     l : List ℕ
     l = drop at file
 
-    is : (whole l ≡ true) × (kind_of l ≡ kind) × (at + 4 ≡ start) × (at + 4 + body_len l ≡ end)
-    is = told file at kind start end e
+    is : (whole l ≡ true) × (kind_of l ≡ h.kind) × (at + 4 ≡ h.start) × (at + 4 + body_len l ≡ h.end)
+    is = told file at h e
 
     some : 0 < length l
     some = omega (arith, (room l is.0).0)
@@ -255,21 +231,21 @@ pieces_next file at kind start end e = cut_head at l some ∙ both
     len : suc (rest_len l) ≡ 4 + body_len l
     len = unfold rest_len in rw is.0 (omega arith)
 
-    size : body_len l ≡ end - start
+    size : body_len l ≡ h.end - h.start
     size = omega (arith, is.2, is.3)
 
-    past : at + (4 + body_len l) ≡ end
+    past : at + (4 + body_len l) ≡ h.end
     past = omega (arith, is.3)
 
-    here : first_piece at l ≡ Record at kind (take (end - start) (drop start file))
+    here : first_piece at l ≡ Record at h.kind (take (h.end - h.start) (drop h.start file))
     here = unfold first_piece in rw (is.0, is.1, size, drop-drop 4 at file, is.2)
 
-    both : first_piece at l ∷ cut_from (at + suc (rest_len l)) 0 (drop (suc (rest_len l)) l) ≡ Record at kind (take (end - start) (drop start file))
-        ∷ cut_from end 0 (drop end file)
+    both : first_piece at l ∷ cut_from (at + suc (rest_len l)) 0 (drop (suc (rest_len l)) l)
+        ≡ Record at h.kind (take (h.end - h.start) (drop h.start file)) ∷ cut_from h.end 0 (drop h.end file)
     both = rw (here, len, drop-drop (4 + body_len l) at file, past)
 
 -- a record that is cut short is the last
-pub pieces_short : (file : List ℕ) (at : ℕ) → at < length file → head_at file at ≡ Short → pieces_at file at ≡ CutShort at ∷ []
+pub pieces_short : (file : List ℕ) (at : ℕ) → at < length file → head_at file at ≡ None → pieces_at file at ≡ CutShort at ∷ []
 unfolding pieces_at
 pieces_short file at h e = cut_head at l some ∙ both
   where
@@ -279,8 +255,8 @@ pieces_short file at h e = cut_head at l some ∙ both
     w : whole l ≡ false
     w = unfold head_at in go (whole l) e
       where
-        go : (t : Bool) → pick t (Whole (kind_of l) (at + 4) (at + 4 + body_len l)) Short ≡ Short → t ≡ false
-        go true p = never (let z : ◌≡◌ {A = ℕ} 0 1 = cc in z)
+        go : (t : Bool) → pick t (Some (head_of at l)) None ≡ None → t ≡ false
+        go true p = cc
         go false p = refl
 
     some : 0 < length l

@@ -1,10 +1,8 @@
 -- The configuration record. Document 01, "Sign file": "Kind 1, first and once, 15 bytes".
-use Rattle.std.specs.Prelude.{ℕ, zero, suc, ◌+◌, ◌/◌, ◌%◌, ◌^◌, List, [], ◌∷◌, Bool, true, false, leb, ltb, eqb, length, get_or}
+use Rattle.std.specs.Prelude.{ℕ, zero, suc, ◌+◌, ◌/◌, ◌%◌, ◌^◌, List, [], ◌∷◌, Bool, true, false, leb, ltb, eqb, length, get_or, Option, Some, None}
 use Rattle.base.specs.Pick.{pick}
 use Rattle.records.specs.Record.{all, little_at}
 use Rattle.records.specs.declared.Config.{Config}
-use Rattle.records.specs.declared.First.{First}
-use Rattle.records.specs.declared.First.TheVariants.{Is, Refused}
 
 -- "width and height in pixels (16 bits each ..), then one byte each for character width, character height, default font ..,
 -- line justification .., page justification .., on time, off time .., then the supported tags (32 bits ..)"
@@ -83,5 +81,5 @@ unfoldable pub is_config : ℕ → List ℕ → Bool
 is_config kind body = all (eqb kind 1 ∷ eqb (length body) 15 ∷ config_ok (config_of body) ∷ [])
 
 -- what `config_of` answers
-unfoldable pub first_of : ℕ → List ℕ → First
-first_of kind body = pick (is_config kind body) (Is (config_of body)) Refused
+unfoldable pub first_of : ℕ → List ℕ → Option Config
+first_of kind body = pick (is_config kind body) (Some (config_of body)) None

@@ -1,8 +1,7 @@
 -- How a sign file is cut into records. Document 01, "Sign file": "Records: body length (two bytes), kind (two bytes), body; all numbers little-endian".
-use Rattle.std.specs.Prelude.{ℕ, zero, suc, ◌+◌, ◌*◌, List, [], ◌∷◌, Bool, true, false, leb, length, get_or, take, drop}
+use Rattle.std.specs.Prelude.{ℕ, zero, suc, ◌+◌, ◌*◌, List, [], ◌∷◌, Bool, true, false, leb, length, get_or, take, drop, Option, Some, None}
 use Rattle.base.specs.Pick.{pick}
-use Rattle.records.specs.declared.Head.{Head}
-use Rattle.records.specs.declared.Head.TheVariants.{Whole, Short}
+use Rattle.records.specs.declared.Record.{Record as Head}
 
 -- each test holds
 abbrev pub all : List Bool → Bool
@@ -53,7 +52,10 @@ pieces file = cut_from 0 0 file
 unfoldable pub pieces_at : List ℕ → ℕ → List Piece
 pieces_at file at = cut_from at 0 (drop at file)
 
--- what `record_at` answers: the kind of the record at an offset, where its body starts and where it ends
-unfoldable pub head_at : List ℕ → ℕ → Head
-head_at file at =
-    pick (whole (drop at file)) (Whole (kind_of (drop at file)) (at + 4) (at + 4 + body_len (drop at file))) Short
+-- the record at the start of l: its kind, where its body starts and where it ends
+abbrev pub head_of : ℕ → List ℕ → Head
+head_of at l = record { kind = kind_of l; start = at + 4; end = at + 4 + body_len l }
+
+-- what `record_at` answers
+unfoldable pub head_at : List ℕ → ℕ → Option Head
+head_at file at = pick (whole (drop at file)) (Some (head_of at (drop at file))) None

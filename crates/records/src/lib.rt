@@ -1,18 +1,19 @@
 // A sign file's records, and the first of them: the configuration.
 #![tactic(auto)]
 
-ghost use Rattle.std.specs.Prelude.{◌≡◌, ◌<◌, length};
+ghost use Rattle.std.specs.Prelude.{◌≡◌, ◌≤◌, length, IfSome};
 ghost use Rattle.records.specs.Record.{little_at, head_at};
 ghost use Rattle.records.specs.Config.{config_of, size_ok, just_ok, tags_ok, config_ok, first_of};
 
 // The tags that a sign may support: fo, hc, jl, jp, nl, np, pt, sc and tr, bits 3, 5, 6, 7, 10 to 13 and 27.
 const MASK: u32 = 134233320;
 
-// A record's kind, where its body starts, and where it ends; or a record that is cut short.
+// A record's kind, where its body starts, and where it ends.
 #[derive(Clone, Copy)]
-pub enum Head {
-    Whole { kind: u16, start: usize, end: usize },
-    Short,
+pub struct Record {
+    pub kind: u16,
+    pub start: usize,
+    pub end: usize,
 }
 
 // The values of kind 1, and the options, which are records of their own: capitals may stand in for small letters
@@ -33,111 +34,82 @@ pub struct Config {
     pub long_times: bool,
 }
 
-#[derive(Clone, Copy)]
-pub enum First {
-    Is(Config),
-    Refused,
-}
-
 // Two bytes as a number, the lowest first; 0 for each past the end.
+#[tactic(auto, using(crate::proofs::Laws::little_bytes))]
 pub fn le16(s: &[u8], at: usize) -> u16
     ensures { result ≡ little_at 2 at s.now }
 {
-    if s.len() <= at {
-        return 0;
-    }
-    base::wide16(s[at]) + 256 * base::wide16(base::byte_at(s, at + 1))
+    u16::from_le_bytes([base::byte_at(s, at), base::byte_at(s, at.saturating_add(1))])
 }
 
 // Four bytes as a number, the lowest first; 0 for each past the end.
+#[tactic(auto, using(crate::proofs::Laws::little_words))]
 fn le32(s: &[u8], at: usize) -> u32
     ensures { result ≡ little_at 4 at s.now }
 {
-    if s.len() <= at {
-        return 0;
-    }
-    base::word32(le16(s, at)) + 65536 * base::word32(le16(s, at + 2))
+    u32::from(le16(s, at)) + 65536 * u32::from(le16(s, at.saturating_add(2)))
 }
 
-// The record at an offset.
-pub fn record_at(file: &[u8], at: usize) -> Head
-    ensures { result ≡ head_at file.now at }
+// The record at an offset, if all of it is there.
+#[tactic(auto, using(crate::proofs::Laws::head_ways))]
+pub fn record_at(file: &[u8], at: usize) -> Option<Record>
+    ensures value { result ≡ head_at file.now at }
+    ensures inside { IfSome result (λ r. (r.start ≤ r.end) × (r.end ≤ length file.now)) }
 {
-    if file.len() < at {
-        return Head::Short;
+    let start = at.saturating_add(4);
+    if file.len() < start {
+        return None;
     }
-    if file.len() - at < 4 {
-        return Head::Short;
-    }
-    let start = at + 4;
-    let end = start + le16(file, at) as usize;
+    let end = start + usize::from(le16(file, at));
     if file.len() < end {
-        return Head::Short;
+        return None;
     }
-    Head::Whole {
+    Some(Record {
         kind: le16(file, at + 2),
         start,
         end,
-    }
+    })
 }
 
 // A width or a height.
+#[tactic(auto, unfolding(crate::specs::Config::size_ok))]
 fn size_ok(size: u16) -> bool
     ensures { result ≡ size_ok size }
 {
-    if size < 1 {
-        return false;
-    }
-    size <= 4096
+    (1..=4096).contains(&size)
 }
 
 // A justification.
+#[tactic(auto, unfolding(crate::specs::Config::just_ok))]
 fn just_ok(just: u8) -> bool
     ensures { result ≡ just_ok just }
 {
-    if just < 2 {
-        return false;
-    }
-    just <= 4
+    (2..=4).contains(&just)
 }
 
 // No bit is set that is not in the mask.
+#[tactic(auto, using(crate::proofs::Laws::mask_test))]
 fn tags_ok(tags: u32) -> bool
     ensures { result ≡ tags_ok tags }
 {
-    let mut k: u32 = 0;
-    while k < 32 {
-        if (MASK >> k) & 1 < (tags >> k) & 1 {
-            return false;
-        }
-        k += 1;
-    }
-    true
+    tags & !MASK == 0
 }
 
 // The rules of the configuration's values.
-fn config_ok(c: Config) -> bool
-    ensures { result ≡ config_ok c }
+#[tactic(auto, unfolding(crate::specs::Config::config_ok, crate::specs::Config::not_zero))]
+fn config_ok(c: &Config) -> bool
+    ensures { result ≡ config_ok c.now }
 {
-    if !size_ok(c.width) {
-        return false;
-    }
-    if !size_ok(c.height) {
-        return false;
-    }
-    if c.font == 0 {
-        return false;
-    }
-    if !just_ok(c.line_just) {
-        return false;
-    }
-    if !just_ok(c.page_just) {
-        return false;
-    }
-    tags_ok(c.tags)
+    size_ok(c.width)
+        && size_ok(c.height)
+        && c.font != 0
+        && just_ok(c.line_just)
+        && just_ok(c.page_just)
+        && tags_ok(c.tags)
 }
 
 // The values of the configuration's body, with no option.
+#[tactic(auto, unfolding(crate::specs::Config::config_of))]
 fn config_in(body: &[u8]) -> Config
     requires { length body.now ≡ 15 }
     ensures { result ≡ config_of body.now }
@@ -159,18 +131,13 @@ fn config_in(body: &[u8]) -> Config
 }
 
 // The configuration, if the first record's kind and body keep its rules.
-pub fn config_of(kind: u16, body: &[u8]) -> First
+#[tactic(auto, unfolding(crate::specs::Config::first_of, crate::specs::Config::is_config))]
+pub fn config_of(kind: u16, body: &[u8]) -> Option<Config>
     ensures { result ≡ first_of kind body.now }
 {
-    if kind != 1 {
-        return First::Refused;
-    }
-    if body.len() != 15 {
-        return First::Refused;
+    if kind != 1 || body.len() != 15 {
+        return None;
     }
     let c = config_in(body);
-    if config_ok(c) {
-        return First::Is(c);
-    }
-    First::Refused
+    if config_ok(&c) { Some(c) } else { None }
 }

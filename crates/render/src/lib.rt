@@ -1,33 +1,20 @@
 // Reading a pass: what each value of a message does to the render state, as `render_text_rectangle` has it.
 #![tactic(auto)]
 
-ghost use Rattle.std.specs.Prelude.{◌≡◌, ◌<◌, ◌≤◌};
-ghost use Rattle.layout.specs.Read.{entry_of, with_just_line, with_just_page, extent as extent_of, fits as fits_of, rect_of, rect_fits, justified as justified_of, go_if, font_step, span_step, line_step, hex_step, new_line_step, spacing_step, rect_step, value_step};
+ghost use Rattle.std.specs.Prelude.{◌≡◌, ok_or};
+ghost use Rattle.layout.specs.Read.{entry_of, extent as extent_of, fits as fits_of, rect_of, rect_fits, refusal_at, justified, font_step, span_step, hex_step, new_line_step, spacing_step, rect_step, value_step};
 
 use layout::{Entry, Rect, RenderState, Step, refusal_at};
 use records::Config;
 use refusal::Refusal;
-use value::{OptFont, OptNum, Place, Rectangle, Value};
+use value::{Place, Rectangle, Value};
 
-// [fo]
-fn font_step(c: Config, st: RenderState, f: OptFont) -> RenderState
+// [fo]: without a number the sign's font, and no version id.
+fn font_step(c: Config, st: RenderState, f: Option<(u8, Option<u16>)>) -> RenderState
     ensures { result ≡ font_step c st f }
 {
-    match f {
-        OptFont::Some(n, id) => st.with_font(n, id),
-        OptFont::None => st.with_font(c.font, OptNum::None),
-    }
-}
-
-// A justification of the tag, or the sign's where it has none: 2 to 4 are taken.
-fn justified(j: OptNum, d: u8) -> OptNum
-    ensures { result ≡ justified_of j d }
-{
-    match j {
-        OptNum::Some(n) if (2..=4).contains(&n) => OptNum::Some(n),
-        OptNum::Some(_) => OptNum::None,
-        OptNum::None => OptNum::Some(u16::from(d)),
-    }
+    let (font, version) = f.unwrap_or((c.font, None));
+    st.with_font(font, version)
 }
 
 // A size of 0 reaches to the edge.
@@ -118,11 +105,16 @@ impl Here {
         })
     }
 
-    // The end of a line: an empty span where it is still blank.
-    fn line_end(self, spacing: OptNum) -> Result<Step, Refusal>
-        requires { self.st.line < 255 }
-        ensures { result ≡ line_step self.p self.st spacing self.blank }
+    // [nl]: 8 at the 256th line end since its number restarted. A line that is still blank has an empty span.
+    fn new_line(self, spacing: Option<u16>) -> Result<Step, Refusal>
+        ensures { result ≡ new_line_step self.c self.st self.blank self.p spacing }
     {
+        if 0 < self.c.char_height && 0 < spacing.unwrap_or(0) {
+            return Err(refusal_at(self.p, 6));
+        }
+        if self.st.line == u8::MAX {
+            return Err(refusal_at(self.p, 8));
+        }
         let next = self.st.with_line(spacing);
         if !self.blank {
             return Ok(Step::Go(next, true));
@@ -137,19 +129,6 @@ impl Here {
         Ok(Step::Emit(e, next, true))
     }
 
-    // [nl]: 8 at the 256th line end since its number restarted.
-    fn new_line(self, spacing: OptNum) -> Result<Step, Refusal>
-        ensures { result ≡ new_line_step self.c self.st self.blank self.p spacing }
-    {
-        if 0 < self.c.char_height && 0 < layout::unwrap_or(spacing, 0) {
-            return Err(refusal_at(self.p, 6));
-        }
-        if self.st.line == 255 {
-            return Err(refusal_at(self.p, 8));
-        }
-        self.line_end(spacing)
-    }
-
     // [sc]
     fn spacing(self, n: u8) -> Result<Step, Refusal>
         ensures { result ≡ spacing_step self.c self.st self.blank self.p n }
@@ -157,10 +136,7 @@ impl Here {
         if 0 < self.c.char_width && 0 < n {
             return Err(refusal_at(self.p, 6));
         }
-        Ok(Step::Go(
-            self.st.with_char_spacing(OptNum::Some(u16::from(n))),
-            self.blank,
-        ))
+        Ok(Step::Go(self.st.with_char_spacing(Some(u16::from(n))), self.blank))
     }
 
     // [tr]
@@ -175,44 +151,35 @@ impl Here {
         }
     }
 
-    // [jl]
-    fn line_just(self, j: OptNum) -> Result<Step, Refusal>
-        requires { self.c.line_just ≤ 4 }
-        ensures { result ≡ go_if self.p (justified_of j self.c.line_just) (with_just_line self.st) self.blank }
+    // The justification of a [jl] or [jp], or the sign's where it has none: 2 to 4 are taken.
+    fn just(self, j: Option<u16>, d: u8) -> Result<u8, Refusal>
+        ensures { result ≡ ok_or (justified j d) (refusal_at self.p 6) }
     {
-        let OptNum::Some(n) = justified(j, self.c.line_just) else {
-            return Err(refusal_at(self.p, 6));
-        };
-        Ok(Step::Go(self.st.with_just_line((n % 256) as u8), self.blank))
-    }
-
-    // [jp]
-    fn page_just(self, j: OptNum) -> Result<Step, Refusal>
-        requires { self.c.page_just ≤ 4 }
-        ensures { result ≡ go_if self.p (justified_of j self.c.page_just) (with_just_page self.st) self.blank }
-    {
-        let OptNum::Some(n) = justified(j, self.c.page_just) else {
-            return Err(refusal_at(self.p, 6));
-        };
-        Ok(Step::Go(self.st.with_just_page((n % 256) as u8), self.blank))
+        match j {
+            Some(n) if (2..=4).contains(&n) => Ok(n as u8),
+            Some(_) => Err(refusal_at(self.p, 6)),
+            None => Ok(d),
+        }
     }
 
     fn step(self, v: Value) -> Result<Step, Refusal>
-        requires { (self.c.line_just ≤ 4) × (self.c.page_just ≤ 4) }
         ensures { result ≡ value_step self.c self.st self.blank self.p v }
     {
         match v {
             Value::Font(f) => Ok(Step::Go(font_step(self.c, self.st, f), self.blank)),
             Value::HexadecimalCharacter(code) => self.hex(code),
-            Value::JustificationLine(j) => self.line_just(j),
-            Value::JustificationPage(j) => self.page_just(j),
+            Value::JustificationLine(j) => {
+                let n = self.just(j, self.c.line_just)?;
+                Ok(Step::Go(self.st.with_just_line(n), self.blank))
+            }
+            Value::JustificationPage(j) => {
+                let n = self.just(j, self.c.page_just)?;
+                Ok(Step::Go(self.st.with_just_page(n), self.blank))
+            }
             Value::NewLine(spacing) => self.new_line(spacing),
             Value::NewPage => Ok(Step::Turn),
             Value::SpacingCharacter(n) => self.spacing(n),
-            Value::SpacingCharacterEnd => Ok(Step::Go(
-                self.st.with_char_spacing(OptNum::None),
-                self.blank,
-            )),
+            Value::SpacingCharacterEnd => Ok(Step::Go(self.st.with_char_spacing(None), self.blank)),
             Value::Text(t) => self.text(t),
             Value::TextRectangle(r) => self.rect(r),
             _ => Ok(Step::Go(self.st, self.blank)),
@@ -222,7 +189,6 @@ impl Here {
 
 // What the value of an item at a place does in a state. [pt], which the scan took, and the tags that no sign file supports do nothing.
 pub fn step(c: Config, st: RenderState, blank: bool, p: Place, v: Value) -> Result<Step, Refusal>
-    requires { (c.line_just ≤ 4) × (c.page_just ≤ 4) }
     ensures { result ≡ value_step c st blank p v }
 {
     Here { c, st, blank, p }.step(v)

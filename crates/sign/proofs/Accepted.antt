@@ -7,11 +7,11 @@ use native.Mathlib.Omega.{arith}
 use lib.Dec.{leb, ltb, eqb}
 use lib.ListN.{length, get_or, take, drop, length-take, length-drop}
 use lib.Seq.{drop-drop}
-use borrow.Author.Tests.{leb-true, ltb-true, ltb-false, eqb-true, eqb-false, not-true, eq-eqb, ne_eqb}
+use borrow.Author.Tests.{leb-true, ltb-true, ltb-false, eqb-true, not-true, eq-eqb, ne_eqb}
 use Rattle.base.specs.Pick.{pick}
 use Rattle.records.specs.Record.{little_at, body_len, kind_of, whole, first_piece, rest_len, cut_from, Piece, Record, CutShort, pieces, pieces_at}
-use Rattle.records.specs.Config.{not_zero, size_ok, just_ok, mask, bit, bits_ok, tags_ok, config_of, with_options, config_ok, is_config}
-use Rattle.records.proofs.Laws.{never, Tests, tests, skips, room}
+use Rattle.records.specs.Config.{not_zero, size_ok, just_ok, bits_ok, tags_ok, config_of, with_options, config_ok, is_config}
+use Rattle.records.proofs.Laws.{Tests, tests, skips, room, bits_known}
 use Rattle.records.specs.declared.Config.{Config}
 use Rattle.sign.specs.Sign.{Character, Font, character_of, font_of, characters_of, fonts_of, has_option, past_option, past_options, config_in, member, Before, NoFont, After, is_font, is_character, bitmap_len, Verdict, Fine, FailsAt, fault_from, first_fault, fault, Accepted, answer, sign_file}
 use Rattle.sign.specs.Accepted.{Each, each_none, each_more, Apart, apart_none, apart_more, GoodConfig, GoodCharacter, GoodFont, GoodSign, Bytes}
@@ -51,9 +51,9 @@ Chain file (CutShort at ∷ ps) = Chain file ps
 Chain file (Record at kind body ∷ ps) = Placed file at body ps × Chain file ps
 
 drop_tail : (at : ℕ) (file : List ℕ) (b : ℕ) (l : List ℕ) → drop at file ≡ b ∷ l → drop (suc at) file ≡ l
-drop_tail zero [] b l e = never (let z : ◌≡◌ {A = ℕ} 0 1 = cc in z)
+drop_tail zero [] b l e = cc
 drop_tail zero (x ∷ file) b l e = cc
-drop_tail (suc at) [] b l e = never (let z : ◌≡◌ {A = ℕ} 0 1 = cc in z)
+drop_tail (suc at) [] b l e = cc
 drop_tail (suc at) (x ∷ file) b l e = drop_tail at file b l e
 
 rest_drop : (n at : ℕ) (file : List ℕ) (b : ℕ) (l : List ℕ) → drop at file ≡ b ∷ l → drop (3 + n) l ≡ drop (at + 4 + n) file
@@ -231,7 +231,7 @@ module _ (file : List ℕ) where
   rest : (ps : List Piece) (ns : List ℕ) (b : Before) → Chain file ps → length ns ≤ 24 → Small b → fault_from ns b ps ≡ Fine → Rest ns b ps
   unfolding fault_from fonts_of characters_of
   rest [] ns b ch h sm e = record { few = omega arith; apart = apart_none; each = each_none; now = now_none b sm }
-  rest (CutShort at ∷ ps) ns b ch h sm e = never (let z : ◌≡◌ {A = ℕ} 0 1 = cc in z)
+  rest (CutShort at ∷ ps) ns b ch h sm e = cc
   rest (Record at kind body ∷ ps) ns NoFont ch h sm e = go (is_font ns kind body) refl (rest ps (get_or body 0 0 ∷ ns) (After (get_or body 1 0) []) ch.1) e
     where
       go : (t : Bool) → is_font ns kind body ≡ t
@@ -240,10 +240,7 @@ module _ (file : List ℕ) where
           → pick t (fault_from (get_or body 0 0 ∷ ns) (After (get_or body 1 0) []) ps) (pick (is_character NoFont kind body) (fault_from ns NoFont ps) (FailsAt at))
           ≡ Fine → Rest ns NoFont (Record at kind body ∷ ps)
       go true p k q = rest_font at kind body ps ch.0 ns NoFont tt p (k (font_few ns kind body p) (omega arith) q)
-      go false p k q = never (none q)
-        where
-          none : pick (is_character NoFont kind body) (fault_from ns NoFont ps) (FailsAt at) ≡ Fine → ◌≡◌ {A = ℕ} 0 1
-          none r = unfold is_character in cc
+      go false p k q = unfold is_character in cc
   rest (Record at kind body ∷ ps) ns (After height cs) ch h sm e =
       go (is_font ns kind body) (is_character (After height cs) kind body) refl refl (rest ps (get_or body 0 0 ∷ ns) (After (get_or body 1 0) []) ch.1)
       (rest ps ns (After height (little_at 2 0 body ∷ cs)) ch.1 h) e
@@ -257,7 +254,7 @@ module _ (file : List ℕ) where
           → Rest ns (After height cs) (Record at kind body ∷ ps)
       go true u p q k m r = rest_font at kind body ps ch.0 ns (After height cs) sm p (k (font_few ns kind body p) (omega arith) r)
       go false true p q k m r = rest_char at kind body ps ch.0 ns height cs q (m (char_few height cs kind body q) r)
-      go false false p q k m r = never (let z : ◌≡◌ {A = ℕ} 0 1 = cc in z)
+      go false false p q k m r = cc
 
 -- the configuration
 sized : (n : ℕ) → size_ok n ≡ true → (1 ≤ n) × (n ≤ 4096)
@@ -271,20 +268,6 @@ unfolding just_ok
 justified n e =
     let ok : Tests (leb 2 n ∷ leb n 4 ∷ []) = tests (leb 2 n ∷ leb n 4 ∷ []) e in
     (leb-true 2 n ok.0, leb-true n 4 ok.1.0)
-
-bits_known : (n k tags j : ℕ) → bits_ok n k tags ≡ true → k ≤ j → j < k + n → bit j tags ≤ bit j mask
-unfolding bits_ok
-bits_known zero k tags j e p q = absurd (omega arith)
-bits_known (suc n) k tags j e p q = go (leb (bit k tags) (bit k mask)) (eqb k j) refl refl (bits_known n (k + 1) tags j) e
-  where
-    go : (t u : Bool) → leb (bit k tags) (bit k mask) ≡ t → eqb k j ≡ u
-        → (bits_ok n (k + 1) tags ≡ true → k + 1 ≤ j → j < k + 1 + n → bit j tags ≤ bit j mask) → pick t (bits_ok n (k + 1) tags) false ≡ true
-        → bit j tags ≤ bit j mask
-    go true true a b f r = rw (← eqb-true k j b) (leb-true (bit k tags) (bit k mask) a)
-    go true false a b f r =
-        let no : k ≡ j → ⊥ = eqb-false k j b in
-        f r (omega arith) (omega arith)
-    go false u a b f r = never (let z : ◌≡◌ {A = ℕ} 0 1 = cc in z)
 
 config_good : (c : Config) → config_ok c ≡ true → GoodConfig c
 unfolding config_ok tags_ok
@@ -308,8 +291,8 @@ config_good c e =
 -- the whole file
 first_good : (file : List ℕ) (ps : List Piece) → length file ≤ 65535 → Chain file ps → first_fault ps ≡ Fine → GoodSign file (config_in ps) (fonts_of ps)
 unfolding first_fault config_in
-first_good file [] h ch e = never (let z : ◌≡◌ {A = ℕ} 0 1 = cc in z)
-first_good file (CutShort at ∷ ps) h ch e = never (let z : ◌≡◌ {A = ℕ} 0 1 = cc in z)
+first_good file [] h ch e = cc
+first_good file (CutShort at ∷ ps) h ch e = cc
 first_good file (Record at kind body ∷ ps) h ch e = go (is_config kind body) refl e
   where
     go : (t : Bool) → is_config kind body ≡ t → pick t (fault_from [] NoFont (past_options ps)) (FailsAt at) ≡ Fine
@@ -331,7 +314,7 @@ first_good file (Record at kind body ∷ ps) h ch e = go (is_config kind body) r
 
         fonts : fonts_of (Record at kind body ∷ ps) ≡ fonts_of (past_options ps)
         fonts = fonts_other at kind body ps (λ d. omega (arith, eqb-true kind 1 ok.0)) ∙ sym (options_fonts ps)
-    go false p q = never (let z : ◌≡◌ {A = ℕ} 0 1 = cc in z)
+    go false p q = cc
 
 pub accepted : (file : List ℕ) (c : Config) (fs : List Font) → Bytes file → sign_file file ≡ Accepted c fs → GoodSign file c fs
 unfolding sign_file fault
@@ -342,9 +325,9 @@ accepted file c fs h e = go (ltb 65535 (length file)) (first_fault (pieces file)
 
     go : (t : Bool) (v : Verdict) → ltb 65535 (length file) ≡ t → first_fault (pieces file) ≡ v
         → answer (pick t (FailsAt 0) v) (config_in (pieces file)) (fonts_of (pieces file)) ≡ Accepted c fs → GoodSign file c fs
-    go true v p q r = never (let z : ◌≡◌ {A = ℕ} 0 1 = cc in z)
+    go true v p q r = cc
     go false Fine p q r =
         let a : config_in (pieces file) ≡ c = cc in
         let b : fonts_of (pieces file) ≡ fs = cc in
         rw (← a, ← b) (made (ltb-false 65535 (length file) p) q)
-    go false (FailsAt at) p q r = never (let z : ◌≡◌ {A = ℕ} 0 1 = cc in z)
+    go false (FailsAt at) p q r = cc

@@ -1,5 +1,5 @@
 -- The options that the records after the first may start with.
-use Prim.Native.Nat.{ℕ, ◌+◌, ◌≤◌, ◌<◌}
+use Prim.Native.Nat.{ℕ, ◌+◌, ◌≤◌}
 use mathlib.Core.Path.{◌≡◌, refl, sym, ◌∙◌}
 use mathlib.Core.List.{List, [], ◌∷◌}
 use mathlib.Core.Bool.{Bool, true, false}
@@ -13,10 +13,12 @@ use Rattle.records.specs.Record.{Piece, Record, CutShort, pieces_at, head_at}
 use Rattle.records.specs.Config.{with_options}
 use Rattle.records.proofs.Laws.{head_start, head_from, head_to, pieces_next, pieces_short, pieces_end}
 use Rattle.records.specs.declared.Config.{Config}
-use Rattle.records.specs.declared.Head.{Head}
-use Rattle.records.specs.declared.Head.TheVariants.{Whole, Short}
+use Rattle.records.specs.declared.Record.{Record as Head}
+use Rattle.std.proofs.Common.{◌⊎◌, inl, inr}
+use Rattle.std.specs.Prelude.{Some, None, Result}
 use Rattle.sign.specs.Sign.{fonts_of, has_option, past_option, past_options}
 use Rattle.sign.specs.Reading.{part, given_from, given_after, PastOption}
+use Rattle.sign.specs.declared.RefusedAt.{RefusedAt}
 use Rattle.sign.specs.declared.SignFile.{SignFile}
 use Rattle.sign.proofs.Laws.{fonts_other}
 
@@ -59,49 +61,44 @@ module _ (file : List ℕ) (at option : ℕ) where
   unfolding past_option
   stays e = record { inside = λ h. h; rest = rw e; has = rw (le-ltb at at (le_refl at)) (sym e) }
 
-  module _ (s : Head) (p : s ≡ head_at file at) where
-    pub option_short : s ≡ Short → PastOption file at option at
-    option_short q = stays (go (leb (length file) at) refl)
+  pub option_short : None ≡ head_at file at → PastOption file at option at
+  option_short q = stays (go (leb (length file) at) refl)
+    where
+      go : (t : Bool) → leb (length file) at ≡ t → has_option option (pieces_at file at) ≡ false
+      go true d = unfold has_option in rw (pieces_end file at (leb-true (length file) at d))
+      go false d = unfold has_option in rw (pieces_short file at (leb-false (length file) at d) (sym q))
+
+  module _ (h : Head) (q : Some h ≡ head_at file at) where
+    abbrev body : List ℕ
+    body = part file h.start h.end
+
+    next : pieces_at file at ≡ Record at h.kind body ∷ pieces_at file h.end
+    next = pieces_next file at h (sym q)
+
+    within : (h.start ≡ at + 4) × (h.start ≤ h.end) × (h.end ≤ length file)
+    within = (head_start file at h (sym q), head_from file at h (sym q), head_to file at h (sym q))
+
+    size : length body + h.start ≡ h.end
+    size = simp (length-take, length-drop) (omega (arith, within.1, within.2))
+
+    pub option_not : ((h.kind ≡ option) × (h.start ≡ h.end → ⊥)) ⊎ (h.kind ≡ option → ⊥) → PastOption file at option at
+    option_not (inl (k, n)) = stays (unfold has_option in rw (next, eq-eqb h.kind option k, ne_eqb (length body) 0 (λ e. n (omega (arith, size)))))
+    option_not (inr n) = stays (unfold has_option in rw (next, ne_eqb h.kind option n))
+
+    pub option_is : h.kind ≡ option → h.start ≡ h.end → PastOption file at option h.end
+    unfolding past_option
+    option_is k e =
+        record {
+          inside = λ i. within.2;
+          rest = rw (yes, next);
+          has = rw (yes, lt-ltb at h.end (omega (arith, within.0, within.1)));
+        }
       where
-        go : (t : Bool) → leb (length file) at ≡ t → has_option option (pieces_at file at) ≡ false
-        go true d = unfold has_option in rw (pieces_end file at (leb-true (length file) at d))
-        go false d = unfold has_option in rw (pieces_short file at (leb-false (length file) at d) (sym p ∙ q))
-
-    module _ (kind start end : ℕ) (q : s ≡ Whole kind start end) where
-      abbrev body : List ℕ
-      body = part file start end
-
-      head : head_at file at ≡ Whole kind start end
-      head = sym p ∙ q
-
-      next : pieces_at file at ≡ Record at kind body ∷ pieces_at file end
-      next = pieces_next file at kind start end head
-
-      size : length body + start ≡ end
-      size = simp (length-take, length-drop) (omega (arith, head_from file at kind start end head, head_to file at kind start end head))
-
-      pub option_other : (kind ≡ option → ⊥) → PastOption file at option at
-      option_other n = stays (unfold has_option in rw (next, ne_eqb kind option n))
-
-      pub option_full : kind ≡ option → start < end → PastOption file at option at
-      option_full k h = stays (unfold has_option in rw (next, eq-eqb kind option k, ne_eqb (length body) 0 (λ e. omega (arith, size))))
-
-      pub option_is : kind ≡ option → end ≤ start → PastOption file at option end
-      unfolding past_option
-      option_is k h =
-          record {
-            inside = λ i. head_to file at kind start end head;
-            rest = rw (yes, next);
-            has = rw (yes, lt-ltb at end (omega (arith, head_start file at kind start end head, head_from file at kind start end head)));
-          }
-        where
-          yes : has_option option (pieces_at file at) ≡ true
-          yes = unfold has_option in rw (next, eq-eqb kind option k, eq-eqb (length body) 0 (omega (arith, size)))
-
-pub ruleset option_ways = (option_short, option_other, option_full, option_is)
+        yes : has_option option (pieces_at file at) ≡ true
+        yes = unfold has_option in rw (next, eq-eqb h.kind option k, eq-eqb (length body) 0 (omega (arith, size)))
 
 -- `read_options`
-pub options_on : (file : List ℕ) (from : ℕ) (c d : Config) (at end : ℕ) (r : SignFile) → PastOption file from 4 at → PastOption file at 5 end
+pub options_on : (file : List ℕ) (from : ℕ) (c d : Config) (at end : ℕ) (r : Result SignFile RefusedAt) → PastOption file from 4 at → PastOption file at 5 end
     → d ≡ with_options (ltb from at) (ltb at end) c → r ≡ given_from file end d → r ≡ given_after file from c
 unfolding given_from given_after past_options
 options_on file from c d at end r o p e f =

@@ -1,9 +1,9 @@
 -- What `read_sign` gives of a file: the whole answer, field by field.
-use Rattle.std.specs.Prelude.{ℕ, zero, suc, ◌-◌, List, [], ◌∷◌, ◌++◌, map, false, length}
+use Rattle.std.specs.Prelude.{ℕ, zero, suc, ◌-◌, List, [], ◌∷◌, ◌++◌, map, length, Result, Ok, Err}
 use Rattle.records.specs.declared.Config.{Config}
 use Rattle.sign.specs.Sign.{Font, Sign, Accepted as Content, RefusedAt as Refusal}
 use Rattle.sign.specs.declared.FontEntry.{FontEntry}
-use Rattle.sign.specs.declared.Outcome.TheVariants.{Accepted, RefusedAt}
+use Rattle.sign.specs.declared.RefusedAt.{RefusedAt}
 use Rattle.sign.specs.declared.SignFile.{SignFile}
 
 -- a font's entry in the table: its values, where its characters start, and how many they are
@@ -24,31 +24,14 @@ unfoldable pub no_fonts : ℕ → List FontEntry
 no_fonts zero = []
 no_fonts (suc n) = record { number = 0; height = 0; char_spacing = 0; line_spacing = 0; version_id = 0; first = 0; characters = 0 } ∷ no_fonts n
 
-unfoldable pub no_config : Config
-no_config =
-    record {
-      width = 0;
-      height = 0;
-      char_width = 0;
-      char_height = 0;
-      font = 0;
-      line_just = 0;
-      page_just = 0;
-      on_time = 0;
-      off_time = 0;
-      tags = 0;
-      capitals = false;
-      long_times = false;
-    }
-
 -- an accepted file: its fonts stand first in the table
 unfoldable pub content_of : Config → List Font → SignFile
-content_of c fs = record { outcome = Accepted; config = c; fonts = map entry_of fs ++ no_fonts (24 - length fs); count = length fs }
+content_of c fs = record { config = c; fonts = map entry_of fs ++ no_fonts (24 - length fs); count = length fs }
 
 -- a refused file: nothing but the start
-unfoldable pub refusal_at : ℕ → SignFile
-refusal_at at = record { outcome = RefusedAt at; config = no_config; fonts = no_fonts 24; count = 0 }
+abbrev pub refusal_at : ℕ → Result SignFile RefusedAt
+refusal_at at = Err (record { at = at })
 
-abbrev pub given : Sign → SignFile
-given (Content c fs) = content_of c fs
+abbrev pub given : Sign → Result SignFile RefusedAt
+given (Content c fs) = Ok (content_of c fs)
 given (Refusal at) = refusal_at at

@@ -1,18 +1,15 @@
 -- What the reader's inner functions answer, in terms of the definitions, and what its loops keep. Nothing here is part of what a file means.
-use Rattle.std.specs.Prelude.{ℕ, ◌+◌, ◌-◌, ◌≤◌, ◌≡◌, List, [], ◌∷◌, ◌++◌, map, Bool, true, false, not, ltb, eqb, length, get_or, take, drop}
+use Rattle.std.specs.Prelude.{ℕ, ◌+◌, ◌-◌, ◌≤◌, ◌≡◌, List, [], ◌∷◌, ◌++◌, map, Bool, true, false, not, ltb, eqb, length, get_or, take, drop, Option, Some, None, Result, IsSome}
 use Rattle.base.specs.Pick.{pick}
 use Rattle.records.specs.Record.{all, little_at, Piece, Record, CutShort, pieces_at, head_at}
 use Rattle.records.specs.Config.{not_zero, with_options}
 use Rattle.records.specs.declared.Config.{Config}
-use Rattle.records.specs.declared.Head.{Head}
-use Rattle.records.specs.declared.Head.TheVariants.{Whole, Short}
+use Rattle.records.specs.declared.Record.{Record as Head}
 use Rattle.sign.specs.Sign.{characters_of, fonts_of, has_option, past_option, past_options, member, Before, NoFont, After, is_character, bitmap_len, Fine, fault_from, answer}
 use Rattle.sign.specs.declared.FontEntry.{FontEntry}
-use Rattle.sign.specs.declared.FontAt.{FontAt}
-use Rattle.sign.specs.declared.FontAt.TheVariants.{Is, Not}
-use Rattle.sign.specs.declared.CharAt.{CharAt}
-use Rattle.sign.specs.declared.CharAt.TheVariants.{Code, Other}
+use Rattle.sign.specs.declared.CharRecord.{CharRecord}
 use Rattle.sign.specs.declared.CharRun.{CharRun}
+use Rattle.sign.specs.declared.RefusedAt.{RefusedAt}
 use Rattle.sign.specs.Given.{entry_of, no_fonts, given}
 use Rattle.sign.specs.declared.SignFile.{SignFile}
 
@@ -29,7 +26,7 @@ entry_with body version first n =
       characters = n;
     }
 
-unfoldable pub font_entry : List ℕ → ℕ → FontEntry
+abbrev pub font_entry : List ℕ → ℕ → FontEntry
 font_entry body first = entry_with body (little_at 2 4 body) first 0
 
 abbrev pub filled : FontEntry → ℕ → FontEntry
@@ -45,12 +42,12 @@ filled f n =
     }
 
 -- what is given of the records from an offset on, after the configuration
-unfoldable pub given_from : List ℕ → ℕ → Config → SignFile
+unfoldable pub given_from : List ℕ → ℕ → Config → Result SignFile RefusedAt
 given_from file from c =
     given (answer (fault_from [] NoFont (pieces_at file from)) c (fonts_of (pieces_at file from)))
 
 -- the same, where options may stand first
-unfoldable pub given_after : List ℕ → ℕ → Config → SignFile
+unfoldable pub given_after : List ℕ → ℕ → Config → Result SignFile RefusedAt
 given_after file from c =
     given
     (answer (fault_from [] NoFont (past_options (pieces_at file from)))
@@ -70,14 +67,14 @@ part file start end = take (end - start) (drop start file)
 unfoldable pub font_shape : ℕ → List ℕ → Bool
 font_shape kind body = all (eqb kind 2 ∷ eqb (length body) 6 ∷ not_zero (get_or body 0 0) ∷ not_zero (get_or body 1 0) ∷ [])
 
-unfoldable pub font_in : ℕ → List ℕ → ℕ → FontAt
-font_in kind body end = pick (font_shape kind body) (Is (font_entry body end)) Not
+unfoldable pub font_in : ℕ → List ℕ → ℕ → Option FontEntry
+font_in kind body end = pick (font_shape kind body) (Some (font_entry body end)) None
 
-abbrev pub font_by : List ℕ → Head → FontAt
-font_by file (Whole kind start end) = font_in kind (part file start end) end
-font_by file Short = Not
+abbrev pub font_by : List ℕ → Option Head → Option FontEntry
+font_by file (Some h) = font_in h.kind (part file h.start h.end) h.end
+font_by file None = None
 
-unfoldable pub font_at : List ℕ → ℕ → FontAt
+unfoldable pub font_at : List ℕ → ℕ → Option FontEntry
 font_at file at = font_by file (head_at file at)
 
 -- the part of a character's rules that its record and its font's height show
@@ -85,19 +82,23 @@ unfoldable pub char_shape : ℕ → ℕ → List ℕ → Bool
 char_shape height kind body =
     all (eqb kind 3 ∷ eqb (length body) (3 + bitmap_len (get_or body 2 0) height) ∷ not_zero (little_at 2 0 body) ∷ [])
 
-unfoldable pub char_in : ℕ → ℕ → List ℕ → ℕ → CharAt
-char_in height kind body end = pick (char_shape height kind body) (Code (little_at 2 0 body) end) Other
+-- a character's number, from its record's body, and where the record ends
+abbrev pub char_of : List ℕ → ℕ → CharRecord
+char_of body end = record { code = little_at 2 0 body; end = end }
 
-abbrev pub char_by : List ℕ → ℕ → Head → CharAt
-char_by file height (Whole kind start end) = char_in height kind (part file start end) end
-char_by file height Short = Other
+unfoldable pub char_in : ℕ → ℕ → List ℕ → ℕ → Option CharRecord
+char_in height kind body end = pick (char_shape height kind body) (Some (char_of body end)) None
 
-unfoldable pub char_at : List ℕ → ℕ → ℕ → CharAt
+abbrev pub char_by : List ℕ → ℕ → Option Head → Option CharRecord
+char_by file height (Some h) = char_in height h.kind (part file h.start h.end) h.end
+char_by file height None = None
+
+unfoldable pub char_at : List ℕ → ℕ → ℕ → Option CharRecord
 char_at file at height = char_by file height (head_at file at)
 
--- a table by number: 1 stands at the numbers of ns and nowhere else
-pub record Marked (ns table : List ℕ) : Type 0 where
-  pub at_number : (n : ℕ) → member n ns ≡ eqb (get_or table n 0) 1
+-- a table by number: true stands at the numbers of ns and nowhere else
+pub record Marked (ns : List ℕ) (table : List Bool) : Type 0 where
+  pub at_number : (n : ℕ) → member n ns ≡ get_or table n false
 
 -- the records from an offset on start with no character by the rules
 unfoldable pub stops : Before → List Piece → Bool
@@ -122,18 +123,18 @@ pub record Ran (file : List ℕ) (from height n at : ℕ) : Type 0 where
   pub stop : stops (After height run.cs) (pieces_at file at) ≡ true
 
 -- n characters were read, with their numbers in a table of a size
-pub record Running (file : List ℕ) (from height size : ℕ) (table : List ℕ) (n at : ℕ) : Type 0 where
+pub record Running (file : List ℕ) (from height size : ℕ) (table : List Bool) (n at : ℕ) : Type 0 where
   pub run : Run file from height n at
   pub marked : Marked run.cs table
   pub same : length table ≡ size
 
 -- what is read with a table of a size: the run, or its table is too small, as none of 65,536 is
-pub record RunIn (file : List ℕ) (from height size : ℕ) (r : CharRun) : Type 0 where
-  pub ran : r.wide ≡ false → Ran file from height r.n r.at
-  pub narrow : 65536 ≤ size → r.wide ≡ false
+pub record RunIn (file : List ℕ) (from height size : ℕ) (r : Option CharRun) : Type 0 where
+  pub ran : (q : CharRun) → r ≡ Some q → Ran file from height q.n q.at
+  pub narrow : 65536 ≤ size → IsSome r
 
 -- count fonts were read, from an offset on, and the next record is at `at`: ns are their numbers
-pub record Reading (file : List ℕ) (from : ℕ) (used : List ℕ) (fonts : List FontEntry) (count at : ℕ) : Type 0 where
+pub record Reading (file : List ℕ) (from : ℕ) (used : List Bool) (fonts : List FontEntry) (count at : ℕ) : Type 0 where
   pub ns : List ℕ
   pub prior : Before
   pub few : length ns ≡ count

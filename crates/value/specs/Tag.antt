@@ -1,17 +1,15 @@
 -- The bit of each value's name in `enum Tag`, and whether a sign supports it. Document 01, "Tag parser": "`Value::tag` gives each value its
 -- name's bit of `enum Tag`, [/sc] that of sc, fields 1 to 13 F1 to F13, text none."
-use Rattle.std.specs.Prelude.{ℕ, ◌+◌, ◌/◌, ◌%◌, ◌^◌, Bool, false, leb, ltb, eqb}
+use Rattle.std.specs.Prelude.{ℕ, ◌+◌, ◌/◌, ◌%◌, ◌^◌, Bool, false, leb, ltb, eqb, Option, Some, None}
 use Rattle.base.specs.Pick.{pick}
-use Rattle.value.specs.declared.OptTag.{OptTag}
-use Rattle.value.specs.declared.OptTag.TheVariants.{Some, None}
 use Rattle.value.specs.declared.Value.{Value}
 use Rattle.value.specs.declared.Value.TheVariants.{ColorBackground, ColorForeground, ColorRectangle, Field, Flash, FlashEnd, Font, Graphic, HexadecimalCharacter, JustificationLine, JustificationPage, ManufacturerSpecific, ManufacturerSpecificEnd, MovingText, NewLine, NewPage, PageBackground, PageTime, SpacingCharacter, SpacingCharacterEnd, Text, TextRectangle}
 
 -- fields 1 to 13 have the bits from 14 on
-unfoldable pub field_tag : ℕ → OptTag
+unfoldable pub field_tag : ℕ → Option ℕ
 field_tag n = pick (eqb n 0) None (pick (leb n 13) (Some (13 + n)) None)
 
-abbrev pub tag_of : Value → OptTag
+abbrev pub tag_of : Value → Option ℕ
 tag_of (ColorBackground c) = Some 0
 tag_of (ColorForeground c) = Some 1
 tag_of (ColorRectangle r c) = Some 28
@@ -36,6 +34,6 @@ tag_of (Text p) = None
 tag_of (TextRectangle r) = Some 27
 
 -- the bit is set in the sign's supported tags, NTCIP 1203's `dmsSupportedMultiTags`
-abbrev pub has_tag : ℕ → OptTag → Bool
+abbrev pub has_tag : ℕ → Option ℕ → Bool
 has_tag tags (Some k) = pick (ltb k 32) (eqb (tags / 2 ^ k % 2) 1) false
 has_tag tags None = false

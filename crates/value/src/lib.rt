@@ -2,26 +2,14 @@
 #![tactic(auto)]
 
 ghost use Rattle.std.specs.Prelude.{◌≡◌};
+ghost use Rattle.value.specs.Syntax.{number_of};
 ghost use Rattle.value.specs.Tag.{field_tag, tag_of, has_tag};
-
-// What the Rust has as an Option of u8 or u16.
-#[derive(Clone, Copy)]
-pub enum OptNum {
-    Some(u16),
-    None,
-}
 
 // A text, as a part of the message.
 #[derive(Clone, Copy)]
 pub struct Place {
     pub start: u16,
     pub len: u16,
-}
-
-#[derive(Clone, Copy)]
-pub enum OptPlace {
-    Some(Place),
-    None,
 }
 
 #[derive(Clone, Copy)]
@@ -36,12 +24,6 @@ pub struct Rectangle {
 pub enum Color {
     Legacy(u8),
     Rgb(u8, u8, u8),
-}
-
-#[derive(Clone, Copy)]
-pub enum OptColor {
-    Some(Color),
-    None,
 }
 
 #[derive(Clone, Copy)]
@@ -62,20 +44,6 @@ pub enum MovingTextDirection {
     Right,
 }
 
-// A font's number and version id.
-#[derive(Clone, Copy)]
-pub enum OptFont {
-    Some(u8, OptNum),
-    None,
-}
-
-// A graphic's x, y and version id.
-#[derive(Clone, Copy)]
-pub enum OptPoint {
-    Some(u16, u16, OptNum),
-    None,
-}
-
 // Of a moving text: its width, the pixels of a step, the tenths of a second between steps, and the text.
 #[derive(Clone, Copy)]
 pub struct Movement {
@@ -88,24 +56,24 @@ pub struct Movement {
 // Justifications are the numbers of NTCIP 1203: 1 other, 2 left, 3 centre, 4 right, 5 full; 2 top, 3 middle, 4 bottom.
 #[derive(Clone, Copy)]
 pub enum Value {
-    ColorBackground(OptColor),
-    ColorForeground(OptColor),
+    ColorBackground(Option<Color>),
+    ColorForeground(Option<Color>),
     ColorRectangle(Rectangle, Color),
-    Field(u8, OptNum),
-    Flash(FlashOrder, OptNum, OptNum),
+    Field(u8, Option<u16>),
+    Flash(FlashOrder, Option<u16>, Option<u16>),
     FlashEnd,
-    Font(OptFont),
-    Graphic(u8, OptPoint),
+    Font(Option<(u8, Option<u16>)>),
+    Graphic(u8, Option<(u16, u16, Option<u16>)>),
     HexadecimalCharacter(u16),
-    JustificationLine(OptNum),
-    JustificationPage(OptNum),
-    ManufacturerSpecific(u32, OptPlace),
-    ManufacturerSpecificEnd(u32, OptPlace),
+    JustificationLine(Option<u16>),
+    JustificationPage(Option<u16>),
+    ManufacturerSpecific(u32, Option<Place>),
+    ManufacturerSpecificEnd(u32, Option<Place>),
     MovingText(MovingTextMode, MovingTextDirection, Movement),
-    NewLine(OptNum),
+    NewLine(Option<u16>),
     NewPage,
-    PageBackground(OptColor),
-    PageTime(OptNum, OptNum),
+    PageBackground(Option<Color>),
+    PageTime(Option<u16>, Option<u16>),
     SpacingCharacter(u8),
     SpacingCharacterEnd,
     Text(Place),
@@ -149,69 +117,70 @@ pub const CR: u32 = 28;
 
 pub const PB: u32 = 29;
 
-// A tag's bit, or none.
-#[derive(Clone, Copy)]
-pub enum OptTag {
-    Some(u32),
-    None,
-}
-
 // Fields 1 to 13 have the bits F1 to F13.
-fn field_tag(n: u8) -> OptTag
+#[tactic(auto, unfolding(crate::specs::Tag::field_tag))]
+fn field_tag(n: u8) -> Option<u32>
     ensures { result ≡ field_tag n }
 {
-    if n == 0 {
-        return OptTag::None;
+    match n {
+        1..=13 => Some(F1 + u32::from(n) - 1),
+        _ => None,
     }
-    if n <= 13 {
-        return OptTag::Some(F1 + (base::wide32(n) - 1));
-    }
-    OptTag::None
 }
 
 impl Value {
     // `Value::tag`: the bit of the value's name.
-    pub fn tag(self) -> OptTag
+    pub fn tag(self) -> Option<u32>
         ensures { result ≡ tag_of self }
     {
         match self {
-            Value::ColorBackground(_) => OptTag::Some(CB),
-            Value::ColorForeground(_) => OptTag::Some(CF),
-            Value::ColorRectangle(_, _) => OptTag::Some(CR),
+            Value::ColorBackground(_) => Some(CB),
+            Value::ColorForeground(_) => Some(CF),
+            Value::ColorRectangle(..) => Some(CR),
             Value::Field(n, _) => field_tag(n),
-            Value::Flash(_, _, _) => OptTag::Some(FL),
-            Value::FlashEnd => OptTag::Some(FL),
-            Value::Font(_) => OptTag::Some(FO),
-            Value::Graphic(_, _) => OptTag::Some(G),
-            Value::HexadecimalCharacter(_) => OptTag::Some(HC),
-            Value::JustificationLine(_) => OptTag::Some(JL),
-            Value::JustificationPage(_) => OptTag::Some(JP),
-            Value::ManufacturerSpecific(_, _) => OptTag::Some(MS),
-            Value::ManufacturerSpecificEnd(_, _) => OptTag::Some(MS),
-            Value::MovingText(_, _, _) => OptTag::Some(MV),
-            Value::NewLine(_) => OptTag::Some(NL),
-            Value::NewPage => OptTag::Some(NP),
-            Value::PageBackground(_) => OptTag::Some(PB),
-            Value::PageTime(_, _) => OptTag::Some(PT),
-            Value::SpacingCharacter(_) => OptTag::Some(SC),
-            Value::SpacingCharacterEnd => OptTag::Some(SC),
-            Value::Text(_) => OptTag::None,
-            Value::TextRectangle(_) => OptTag::Some(TR),
+            Value::Flash(..) | Value::FlashEnd => Some(FL),
+            Value::Font(_) => Some(FO),
+            Value::Graphic(..) => Some(G),
+            Value::HexadecimalCharacter(_) => Some(HC),
+            Value::JustificationLine(_) => Some(JL),
+            Value::JustificationPage(_) => Some(JP),
+            Value::ManufacturerSpecific(..) | Value::ManufacturerSpecificEnd(..) => Some(MS),
+            Value::MovingText(..) => Some(MV),
+            Value::NewLine(_) => Some(NL),
+            Value::NewPage => Some(NP),
+            Value::PageBackground(_) => Some(PB),
+            Value::PageTime(..) => Some(PT),
+            Value::SpacingCharacter(_) | Value::SpacingCharacterEnd => Some(SC),
+            Value::Text(_) => None,
+            Value::TextRectangle(_) => Some(TR),
         }
     }
 }
 
 // Whether a sign with these tags supports the tag, by shift and mask.
-pub fn has_tag(tags: u32, tag: OptTag) -> bool
+pub fn has_tag(tags: u32, tag: Option<u32>) -> bool
     ensures { result ≡ has_tag tags tag }
 {
-    match tag {
-        OptTag::Some(k) => {
-            if k < 32 {
-                return (tags >> k) & 1 == 1;
-            }
-            false
+    tag.is_some_and(|k| k < 32 && (tags >> k) & 1 == 1)
+}
+
+// How a part of a message fails to read, as the Rust's type has it; `Other` is a code point past 255.
+#[derive(Clone, Copy, Debug, PartialEq, Eq)]
+pub enum SyntaxError {
+    UnsupportedTag,
+    UnsupportedTagValue,
+    Other,
+}
+
+impl SyntaxError {
+    // The number of a refusal for it.
+    pub fn number(self) -> u8
+        ensures { result ≡ number_of self }
+    {
+        match self {
+            SyntaxError::UnsupportedTag => 5,
+            SyntaxError::UnsupportedTagValue => 6,
+            SyntaxError::Other => 7,
         }
-        OptTag::None => false,
     }
 }

@@ -1,8 +1,19 @@
-use Rattle.admit.proofs.Laws.{starts_fit, handed_is}
+use Rattle.std.proofs.Common.{arith}
+use Rattle.admit.proofs.Starts.{start_small}
+use Rattle.admit.proofs.Laws.{bad_sign, too_long, ill_formed, let_in}
 use Rattle.admit.proofs.admit.Goals as goal
 
-pub denied_by-denied-requires : goal.denied_by-denied-requires
-denied_by-denied-requires c = search starts_fit
+pub overflow_cast-refused : goal.overflow_cast-refused
+overflow_cast-refused c = omega (arith, start_small _ _ c.in-Err.ensures)
+
+pub returns-in-Err : goal.returns-in-Err
+returns-in-Err c = rw c.deny.ensures (bad_sign _ _ _ c.in-Err.ensures)
+
+pub returns-then-msg-gt2048 : goal.returns-then-msg-gt2048
+returns-then-msg-gt2048 c = rw c.deny-then-msg-gt2048.ensures (too_long _ _ _ c.in-Ok.ensures c.if-msg-gt2048.true)
+
+pub returns-then-not-well_formed : goal.returns-then-not-well_formed
+returns-then-not-well_formed c = rw c.deny-then-not-well_formed.ensures (ill_formed _ _ _ c.in-Ok.ensures c.if-msg-gt2048.false c.if-not-well_formed.ensures)
 
 pub returns : goal.returns
-returns c = search handed_is
+returns c = let_in _ _ _ c.in-Ok.ensures c.if-msg-gt2048.false c.if-not-well_formed.ensures

@@ -1,18 +1,16 @@
-use borrow.Author.Rules.{rules}
-use Rattle.font.proofs.Tables.{table_start, table_stop, table_end, table_is, table_on}
+use Rattle.std.proofs.Common.{rules, sym, ◌∙◌, ◌≡◌, eqb, take}
+use Rattle.std.proofs.lemmas.Iterator.{YieldsList-from_slice, YieldsList-from_take}
+use Rattle.std.proofs.lemmas.Iterator.Search.{find_from_yields_List}
+use borrow.Author.Tests.{tests}
+use Rattle.std.specs.List.{find}
+use Rattle.std.specs.Option.{option_map}
+use Rattle.sign.specs.declared.FontEntry.{FontEntry}
+use Rattle.font.proofs.Tables.{numbered_find}
 use Rattle.font.proofs.font_numbered.Goals as goal
 
-pub loop-i-init : goal.loop-i-init
-loop-i-init c = search (table_start, rules) depth 8
-
-pub returns-then-i-count : goal.returns-then-i-count
-returns-then-i-count c = search table_stop
-
-pub returns-then-e-number : goal.returns-then-e-number
-returns-then-e-number c = table_is c.loop-i.invariant (search rules) (search) _ c.if-e-number.true
-
-pub loop-i-preserved : goal.loop-i-preserved
-loop-i-preserved c = table_on c.loop-i.invariant (search rules) (search) _ c.if-e-number.false
-
 pub returns : goal.returns
-returns c = search table_end
+returns c =
+    let f : option_map (λ x. x.now) c.find.result ≡ find (λ (e : FontEntry). eqb e.number c.args.number) (take c.args.table.count c.args.table.fonts) =
+    find_from_yields_List (λ (e : FontEntry). eqb e.number c.args.number) _ _ c.find.result c.find.ensures.ran
+    (YieldsList-from_take _ (YieldsList-from_slice _ (search rules)) c.take.ensures.count) (λ x b q k. search (rules, tests)) in
+    c.copied.ensures ∙ f ∙ sym (numbered_find _ _)

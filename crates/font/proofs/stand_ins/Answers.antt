@@ -1,19 +1,12 @@
-use borrow.Author.Rules.{rules}
-use native.Mathlib.Omega.{arith}
-use Rattle.font.proofs.StandIns.{standing_ways}
+use Rattle.std.proofs.Common.{arith, le_refl}
+use Rattle.std.specs.Prelude.{None}
+use Rattle.font.proofs.StandIns.{standing_on, standing_end, flattened}
 use Rattle.font.proofs.stand_ins.Goals as goal
 
-pub loop-code-init : goal.loop-code-init
-loop-code-init c = search (standing_ways, rules) depth 6
-
-pub stand_at-requires : goal.stand_at-requires
-stand_at-requires c = omega (arith, c.loop-code.invariant.from)
-
 pub loop-code-preserved : goal.loop-code-preserved
-loop-code-preserved c = search (standing_ways, rules) depth 6
-
-pub shape_of-table : goal.shape_of-table
-shape_of-table c = c.loop-code.invariant.same
+loop-code-preserved c =
+    standing_on _ _ _ _ _ c.loop-code.invariant c.loop-code.auto.code c.loop-code-test.true
+    (flattened c.flatten-capital.ensures c.copied.ensures (c.get.ensures.lookup.4 (le_refl _) None)) c.fill.ensures
 
 pub returns : goal.returns
-returns c = search (standing_ways, rules) depth 6
+returns c = standing_end _ _ c.loop-code.code c.loop-code.invariant (omega arith)

@@ -1,15 +1,11 @@
-use borrow.Author.Rules.{rules}
-use Rattle.sign.proofs.Options.{option_ways}
+use Rattle.sign.proofs.Options.{option_short, option_is, option_not}
 use Rattle.sign.proofs.past_option.Goals as goal
 
 pub returns-in_default : goal.returns-in_default
-returns-in_default c = search (option_ways, rules) depth 6
-
-pub returns-then-kind-option : goal.returns-then-kind-option
-returns-then-kind-option c = search (option_ways, rules) depth 6
+returns-in_default c = option_short _ _ _ c.in_default.ensures.value
 
 pub returns-then-start-end : goal.returns-then-start-end
-returns-then-start-end c = search (option_ways, rules) depth 6
+returns-then-start-end c = option_is _ _ _ _ c.in-Some.ensures.value c.if-kind-option.true c.if-start-end.true
 
-pub returns : goal.returns
-returns c = search (option_ways, rules) depth 6
+pub returns-else-kind-option : goal.returns-else-kind-option
+returns-else-kind-option c = option_not _ _ _ _ c.in-Some.ensures.value c.else-kind-option.either

@@ -1,5 +1,4 @@
-use Prim.Native.Nat.{◌-◌}
-use lib.ListN.{length}
+use Rattle.std.proofs.Common.{◌-◌, length}
 use Rattle.sign.specs.Reading.{Reading}
 use Rattle.sign.proofs.read_fonts.Given as goal
 

@@ -1,4 +1,4 @@
-use mathlib.Core.Path.{refl}
+use Rattle.std.proofs.Common.{refl}
 use Rattle.sign.proofs.Options.{options_on}
 use Rattle.sign.proofs.read_options.Goals as goal
 

@@ -1,4 +1,0 @@
-use Rattle.numbers.proofs.flash.Goals as goal
-
-pub returns : goal.returns
-returns c = cc

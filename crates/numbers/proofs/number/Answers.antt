@@ -1,4 +1,0 @@
-use Rattle.numbers.proofs.number.Goals as goal
-
-pub returns : goal.returns
-returns c = cc

@@ -1,4 +1,0 @@
-use Rattle.param.proofs.optional_after.Goals as goal
-
-pub returns : goal.returns
-returns c = cc

@@ -1,4 +1,0 @@
-use Rattle.param.proofs.version_part.Goals as goal
-
-pub returns : goal.returns
-returns c = cc
