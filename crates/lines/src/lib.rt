@@ -2,41 +2,20 @@
 #![tactic(auto)]
 
 ghost use Rattle.std.specs.Prelude.{◌≡◌, ◌≤◌, ◌<◌};
-ghost use Rattle.layout.specs.Placing.{first_of as first_num, combine as combine_of, gap_above};
+ghost use Rattle.layout.specs.Placing.{combine as combine_of, gap_above};
 ghost use Rattle.rows.specs.Measured.{font_only};
 ghost use Rattle.lines.specs.Lines.{line_is, line_above, row_line, RowAdded, LinesOf, PageHeights, foot_in, heights_in};
 
 use arrayvec::ArrayVec;
 use layout::Fault;
 use rows::Row;
-use value::OptNum;
 
 // A line, and a span as a line of its own.
-#[derive(Clone, Copy)]
+#[derive(Clone, Copy, Default)]
 struct TextLine {
     height: u16,
     font_spacing: u16,
-    line_spacing: OptNum,
-}
-
-impl Default for TextLine {
-    fn default() -> TextLine {
-        TextLine {
-            height: 0,
-            font_spacing: 0,
-            line_spacing: OptNum::None,
-        }
-    }
-}
-
-// The first of two numbers that is there.
-fn first_num(a: OptNum, b: OptNum) -> OptNum
-    ensures { result ≡ first_num a b }
-{
-    match a {
-        OptNum::Some(n) => OptNum::Some(n),
-        OptNum::None => b,
-    }
+    line_spacing: Option<u16>,
 }
 
 impl TextLine {
@@ -57,7 +36,7 @@ impl TextLine {
         TextLine {
             height: self.height.max(other.height),
             font_spacing: self.font_spacing.max(other.font_spacing),
-            line_spacing: first_num(self.line_spacing, other.line_spacing),
+            line_spacing: self.line_spacing.or(other.line_spacing),
         }
     }
 }
@@ -119,8 +98,8 @@ fn gap(char_height: u8, above: Option<TextLine>, line: TextLine) -> u32
         return 0;
     }
     match line.line_spacing {
-        OptNum::Some(n) => u32::from(n),
-        OptNum::None => rows::half_up(above.font_spacing, line.font_spacing),
+        Some(n) => u32::from(n),
+        None => rows::half_up(above.font_spacing, line.font_spacing),
     }
 }
 

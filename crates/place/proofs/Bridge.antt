@@ -1,8 +1,7 @@
 -- What a pass of measured entries answers is what the layout says of them.
-use Prim.Native.Nat.{ℕ}
 use mathlib.Core.Path.{◌≡◌, refl, ◌∙◌, ap}
 use mathlib.Core.Bool.{Bool, true, false, not, ◌&&◌}
-use mathlib.Core.Option.{Option, none, some}
+use Rattle.std.specs.Prelude.{Option, Some, None}
 use mathlib.Core.List.{List, [], ◌∷◌, map}
 use native.Mathlib.Omega.{arith}
 use lib.Dec.{eqb}
@@ -12,12 +11,13 @@ use Rattle.records.specs.declared.Config.{Config}
 use Rattle.layout.specs.declared.Rect.{Rect}
 use Rattle.layout.specs.declared.Span.{Span}
 use Rattle.layout.specs.declared.Entry.{Entry}
+use Rattle.layout.specs.declared.Fault.{Fault}
 use Rattle.layout.specs.Types.{Meter, Board}
 use Rattle.refusal.specs.Refusals.{refusal}
 use Rattle.layout.specs.Placing as place
 use Rattle.layout.specs.Placing.{or_else, unless, first_fault, select, same, same_page, before_of, after_of, lines_of, above_of, below_of, x_of, base_of, record_of, span_fault, goes_back, back_fault, pass_fault, pass_records}
 use Rattle.rows.specs.declared.Row.{Row}
-use Rattle.rows.specs.Measured.{row_of, fault_of, RowTells}
+use Rattle.rows.specs.Measured.{row_of, RowTells}
 use Rattle.sums.specs.declared.Sums.{Sums}
 use Rattle.sums.specs.Sums.{sums, none_yet}
 use Rattle.sums.proofs.Laws.{sums_before, sums_after_law, sums_fault}
@@ -40,7 +40,7 @@ module _ (m : Meter) where
   -- ---- 9
 
   back_from : (x : Entry) (es : List Entry) → back_rows x.state.just_page x.state.line x.state.just_line (map (row_of m) es)
-      ≡ back_fault (some x) es
+      ≡ back_fault (Some x) es
   back_from x [] = refl
   back_from x (e ∷ es) = ap (or_else (unless (not (goes_back x e)) (refusal 9 e.start e.len 0))) (back_from e es)
 
@@ -57,7 +57,7 @@ module _ (m : Meter) where
   unfolding or_else unless
   goes t f b e = rw e
 
-  back_same : (es : List Entry) → back_rows 0 0 0 (map (row_of m) es) ≡ back_fault none es
+  back_same : (es : List Entry) → back_rows 0 0 0 (map (row_of m) es) ≡ back_fault None es
   back_same [] = refl
   back_same (e ∷ es) = goes (goes_back_from 0 0 0 (row_of m e)) (refusal 9 e.start e.len 0) _ (from_zero (row_of m e)) ∙ back_from e es
 
@@ -75,13 +75,13 @@ module _ (m : Meter) (p : RowTells m) (c : Config) (q : Rect) (es : List Entry) 
   unfolding record_at record_with base_with above_at below_at record_of x_of base_of before_of after_of lines_of above_of below_of
   record_same e = rw (sums_before m p es e, sums_after_law m p es e, lines_measured m p es e)
 
-  fault_at_law : (e : Entry) (f : Option (ℕ × ℕ)) → fault_at (row_of m e) f ≡ place.fault_at board q es e f
-  fault_at_law e none = refl
-  fault_at_law e (some f) = refl
+  fault_at_law : (e : Entry) (f : Option Fault) → fault_at (row_of m e) f ≡ place.fault_at board q es e f
+  fault_at_law e None = refl
+  fault_at_law e (Some f) = refl
 
   group_part : (e : Entry)
       → (let o : Sums = sums (row_of m e) none_yet (map (row_of m) es) in
-      fault_at (row_of m e) (fault_of o.fault) ≡ place.fault_at board q es e (first_fault m.fault (select (same e) es)))
+      fault_at (row_of m e) o.fault ≡ place.fault_at board q es e (first_fault m.fault (select (same e) es)))
   group_part e = ap (fault_at (row_of m e)) (sums_fault m p es e) ∙ fault_at_law e (first_fault m.fault (select (same e) es))
 
   font_part : (e : Entry) → fault_at (row_of m e) (font_fault_from e.state.just_page (map (row_of m) es))
@@ -104,7 +104,7 @@ module _ (m : Meter) (p : RowTells m) (c : Config) (q : Rect) (es : List Entry) 
   unfolding rows_fault pass_fault
   pass_fault_law =
       ap (λ (a : Option Refusal). or_else a (first_fault (span_fault_at c q (map (row_of m) es)) (map (row_of m) es))) (back_same m es)
-      ∙ ap (or_else (back_fault none es)) (first_map m (span_fault_at c q (map (row_of m) es)) (span_fault board q es) fault_same es)
+      ∙ ap (or_else (back_fault None es)) (first_map m (span_fault_at c q (map (row_of m) es)) (span_fault board q es) fault_same es)
 
   pub pass_records_law : rows_records c q (map (row_of m) es) ≡ pass_records (record { config = c; meter = m }) q es
   unfolding rows_records pass_records

@@ -6,22 +6,21 @@ use mathlib.Core.List.{List}
 use native.Mathlib.Omega.{arith}
 use lib.Dec.{ltb, eqb}
 use lib.ListN.{length, get_or}
-use Rattle.std.specs.Prelude.{Result, Ok, Err, Some, None}
-use Rattle.std.specs.Prelude.{Option as Opt}
+use Rattle.std.specs.Prelude.{Option, Some, None, Result, Ok, Err}
 use Rattle.std.specs.Option.{option_or}
 use borrow.Author.Tests.{ltb-false, eqb-true, eqb-false}
 use Rattle.base.specs.Pick.{pick}
 use Rattle.refusal.specs.declared.Refusal.{Refusal}
 use Rattle.layout.specs.declared.Rect.{Rect}
 use Rattle.layout.specs.declared.Span.{Span}
-use Rattle.rows.specs.declared.Fault.{Fault}
+use Rattle.layout.specs.declared.Fault.{Fault}
 use Rattle.rows.specs.declared.Row.{Row}
 use Rattle.rows.specs.Rows.{row_at, link_at, mark_at, MarkPut}
 use Rattle.rows.proofs.Laws.{mark_put, mark_stays, links_stay}
 use Rattle.sums.specs.declared.Sums.{Sums}
 use Rattle.sums.specs.Sums.{same_row, sums, none_yet, SumsOf}
 use Rattle.sums.specs.Chain.{Walk}
-use Rattle.sums.specs.Table.{upto, TableOf}
+use Rattle.sums.specs.Table.{upto}
 use Rattle.sums.proofs.Groups.{Alike, alike_all}
 use Rattle.sums.proofs.Chain.{walk_start, walk_less, walk_on}
 use Rattle.place.specs.declared.shared.Pass.{Pass}
@@ -87,9 +86,6 @@ module _ {p : Pass} where
               };
           grown = grown;
         }
-
-    pub marked_now : 0 < mark_at out' j
-    marked_now = own_mark.some
 
 -- ---- `mark_group`: the rows of the group before the last k are marked, and sum is what stands before number s
 
@@ -180,24 +176,13 @@ module _ {p : Pass} {out₀ : List Span} {r : Row} {total : ℕ} {table : List �
 
 -- ---- `mark_others`
 
-pub group_asks : {p : Pass} {out : List Span} {r : Row} {o : Sums} {table : List ℕ} → OthersAsked p out r o → TableOf p.rows.now r table
-    → GroupAsked p out r (o.before + o.after) table
-group_asks a t =
-    record {
-      ready = a.ready;
-      fine = ap (λ (x : Sums). x.fault) (sym a.sums.is) ∙ a.fine;
-      is = ap (λ (x : Sums). x.before + x.after) a.sums.is;
-      wide = a.wide;
-      tabled = t;
-    }
-
 -- ---- `place_group`
 
 -- a group that ends well has no fault and fits
 across_fits : (q : Rect) (r : Row) (o : Sums) → fault_end r (across_fault q o) ≡ Ok tt → (o.fault ≡ None) × (o.before + o.after ≤ q.width)
 across_fits q r o h = step o.fault (ltb q.width (o.before + o.after)) refl refl h
   where
-    step : (f : Opt Fault) (u : Bool) → o.fault ≡ f → ltb q.width (o.before + o.after) ≡ u
+    step : (f : Option Fault) (u : Bool) → o.fault ≡ f → ltb q.width (o.before + o.after) ≡ u
         → fault_end r (option_or f (pick u (Some (record { number = 13; detail = 0 })) None)) ≡ Ok tt
         → (o.fault ≡ None) × (o.before + o.after ≤ q.width)
     step None true k l g = cc
@@ -206,25 +191,11 @@ across_fits q r o h = step o.fault (ltb q.width (o.before + o.after)) refl refl 
 
 -- o are the sums of row i
 module _ {p : Pass} {out : List Span} {i : ℕ} (h : Ready p out × (i < length p.rows.now)) where
-  pub group_known : 0 < mark_at out i → GroupPlaced p out i out (Ok tt)
-  group_known k = record { to = crossed_same h.0; good = λ _. k; bad = λ f d. cc }
-
   module _ {o : Sums} (so : SumsOf p.rows.now (row_at p.rows.now i) o) {e : Result (Unit {0}) Refusal}
       (ee : e ≡ fault_end (row_at p.rows.now i) (across_fault p.rect o)) where
-    pub group_stop : {f : Refusal} → e ≡ Err f → GroupPlaced p out i out (Err f)
-    group_stop {f} d =
-        record {
-          to = crossed_same h.0;
-          good = λ g. cc;
-          bad = λ x g. sym d ∙ ee ∙ ap (λ (x : Sums). fault_end (row_at p.rows.now i) (across_fault p.rect x)) so.is;
-        }
-
     module _ (fine : e ≡ Ok tt) where
       fits : (o.fault ≡ None) × (o.before + o.after ≤ p.rect.width)
       fits = across_fits p.rect (row_at p.rows.now i) o (sym ee ∙ fine)
-
-      pub own_asks : MarkAsked p out i o.before o.after
-      own_asks = record { low = h.1; room = h.0.chained.asked.room; wide = fits.1 }
 
       first_crossed : Crossed p.config p.rect (row_at p.rows.now i) (sums_at p i) (across_at p.config p.rect (row_at p.rows.now i) o.before o.after)
       first_crossed =
@@ -235,22 +206,11 @@ module _ {p : Pass} {out : List Span} {i : ℕ} (h : Ready p out × (i < length 
         pub others_asks : OthersAsked p out₁ (row_at p.rows.now i) o
         others_asks = record { ready = (crossed_mark h.0 h.1 first_crossed u).ready; sums = so; fine = fits.0; wide = fits.1 }
 
-        pub group_done : {out₂ : List Span} → CrossedTo p out₁ out₂ → GroupPlaced p out i out₂ (Ok tt)
-        group_done d =
-            record {
-              to = crossed_then (crossed_mark h.0 h.1 first_crossed u) d;
-              good = λ _. d.grown i (marked_now h.0 h.1 first_crossed u);
-              bad = λ f g. cc;
-            }
-
 -- ---- `place_across`: the first i rows are placed across
 
 pub record Crossing (p : Pass) (out : List Span) (i : ℕ) : Type 0 where
   pub ready : Ready p out
   pub done : (j : ℕ) → j < i → 0 < mark_at out j
-
-pub cross_start : {p : Pass} {out : List Span} → Ready p out → Crossing p out 0
-cross_start h = record { ready = h; done = λ j k. absurd (omega arith) }
 
 module _ {p : Pass} {out : List Span} {i : ℕ} (z : Crossing p out i) where
   pub cross_end : i ≡ length p.rows.now → PlacedAcross p out (record { count = length p.rows.now; end = Ok tt })
@@ -273,10 +233,3 @@ module _ {p : Pass} {out : List Span} {i : ℕ} (z : Crossing p out i) where
           all = λ x. cc;
           stop = λ x y. (more, sym d ∙ g.bad f d);
         }
-
-    pub cross_on : e ≡ Ok tt → Crossing p out' (i + 1)
-    cross_on d = record { ready = g.to.ready; done = λ j k. step j k (eqb j i) refl }
-      where
-        step : (j : ℕ) → j < i + 1 → (t : Bool) → eqb j i ≡ t → 0 < mark_at out' j
-        step j k true x = rw (eqb-true j i x) (g.good d)
-        step j k false x = let n : j ≡ i → ⊥ = eqb-false j i x in g.to.grown j (z.done j (omega arith))

@@ -2,17 +2,16 @@
 use Prim.Native.Nat.{ℕ, zero, suc, ◌+◌, ◌-◌, ◌≤◌, ◌<◌}
 use mathlib.Core.Path.{◌≡◌, refl, sym, ◌∙◌, ap, subst}
 use mathlib.Core.Bool.{Bool, true, false, not}
-use mathlib.Core.Option.{Option, none, some}
 use mathlib.Core.List.{List, [], ◌∷◌, ◌++◌, map}
 use native.Mathlib.Omega.{arith}
 use lib.Dec.{leb, ltb}
 use lib.ListN.{length, set, take, drop}
-use Rattle.std.specs.Prelude.{Result, Ok, Err, Some, None}
-use Rattle.std.specs.Prelude.{Option as Opt}
+use Rattle.std.specs.Prelude.{Option, Some, None, Result, Ok, Err}
 use Rattle.std.specs.Option.{option_or}
 use borrow.Rule.Slice.PartMut.{put_mid}
 use Rattle.std.proofs.lemmas.Slice.{take-put_mid}
-use Rattle.std.proofs.lemmas.List.{length-map, length-drop, at_drop_more, at_drop_all, take_more, take_more_set, take_all, get_or-take, length-take-le, length-set, map-append, take-append-drop, nil_from_length}
+use Rattle.std.proofs.lemmas.List.{length-map, length-drop, length-take-le, length-set, at_drop_more, at_drop_all, take_more, take_more_set, take_all}
+use Rattle.std.proofs.lemmas.List.{get_or-take, map-append, take-append-drop, nil_from_length}
 use borrow.Author.Tests.{le-ltb, le-leb, lt-leb, ltb-true}
 use Rattle.base.specs.Pick.{pick}
 use Rattle.refusal.specs.declared.Refusal.{Refusal}
@@ -21,10 +20,9 @@ use Rattle.layout.specs.declared.Rect.{Rect}
 use Rattle.layout.specs.declared.Span.{Span}
 use Rattle.refusal.specs.Refusals.{refusal}
 use Rattle.layout.specs.Placing.{or_else, unless, first_fault, place_x}
-use Rattle.rows.specs.declared.Fault.{Fault}
+use Rattle.layout.specs.declared.Fault.{Fault}
 use Rattle.rows.specs.declared.Row.{Row}
 use Rattle.rows.specs.Rows.{blank_row, row_at, rows_of, spans_of, mark_at}
-use Rattle.rows.specs.Measured.{fault_of}
 use Rattle.rows.proofs.Laws.{span_stays}
 use Rattle.sums.specs.declared.Sums.{Sums}
 use Rattle.sums.specs.Sums.{same_row, joined, advanced, sums, none_yet}
@@ -39,7 +37,7 @@ use Rattle.place.specs.declared.shared.Pass.{Pass}
 use Rattle.place.specs.Placed.{goes_back_from, back_rows, stands_at, record_by, refusal_of, fault_at, base_with, record_with, fault_with}
 use Rattle.place.specs.Placed.{placed_by, placed_with, across_fault, fault_end, Crossed, SpanAsked, SpanPlaced, above_at, below_at}
 use Rattle.place.specs.Placed.{record_at, span_fault_at, rows_fault, rows_records, Placeable, LinesMade, RowByRow, PassPlaced}
-use Rattle.place.specs.Groups.{sums_at, end_at, Marked, Ready, PlacedAcross, DownAsked, PlacedDown}
+use Rattle.place.specs.Groups.{sums_at, end_at, Marked, Ready, PlacedAcross, PlacedDown}
 use Rattle.place.proofs.Groups.{marked_as}
 
 -- ---- `check_justification`: the rows from i on, after the row r
@@ -47,7 +45,7 @@ use Rattle.place.proofs.Groups.{marked_as}
 abbrev pub back_after : Row → List Row → Option Refusal
 back_after r es = back_rows r.just_page r.line r.just_line es
 
-stops : (t : Bool) (f : Refusal) (o : Option Refusal) → t ≡ true → or_else (unless (not t) f) o ≡ some f
+stops : (t : Bool) (f : Refusal) (o : Option Refusal) → t ≡ true → or_else (unless (not t) f) o ≡ Some f
 unfolding or_else unless
 stops t f o p = rw p
 
@@ -64,7 +62,7 @@ module _ {rows : List Row} {r : Row} {i : ℕ} (z : Checking rows r i) (h : i < 
   next : back_after r (row_at rows i ∷ drop (i + 1) rows) ≡ back_rows 0 0 0 rows
   next = sym (at_drop_more (back_after r) rows i blank_row h) ∙ z.rest
 
-  pub check_stop : b ≡ true → some (refusal 9 (row_at rows i).start (row_at rows i).len 0) ≡ back_rows 0 0 0 rows
+  pub check_stop : b ≡ true → Some (refusal 9 (row_at rows i).start (row_at rows i).len 0) ≡ back_rows 0 0 0 rows
   check_stop p =
       sym (stops (goes_back_from r.just_page r.line r.just_line (row_at rows i)) _ (back_after (row_at rows i) (drop (i + 1) rows)) (sym f ∙ p)) ∙ next
 
@@ -82,63 +80,63 @@ module _ (a b c d e : Option Refusal) (s : Span) (f : Refusal) where
   answer : Result Span Refusal
   answer = placed_by (or_else a (or_else b (or_else c (or_else d e)))) s
 
-  way3 : a ≡ none → b ≡ none → c ≡ some f → Err f ≡ answer
+  way3 : a ≡ None → b ≡ None → c ≡ Some f → Err f ≡ answer
   unfolding answer or_else
   way3 h i j = rw (h, i, j)
 
-  way4 : a ≡ none → b ≡ none → c ≡ none → d ≡ some f → Err f ≡ answer
+  way4 : a ≡ None → b ≡ None → c ≡ None → d ≡ Some f → Err f ≡ answer
   unfolding answer or_else
   way4 h i j k = rw (h, i, j, k)
 
-  way5 : a ≡ none → b ≡ none → c ≡ none → d ≡ none → e ≡ some f → Err f ≡ answer
+  way5 : a ≡ None → b ≡ None → c ≡ None → d ≡ None → e ≡ Some f → Err f ≡ answer
   unfolding answer or_else
   way5 h i j k l = rw (h, i, j, k, l)
 
-way6 : (a b c d e : Option Refusal) (s : Span) → a ≡ none → b ≡ none → c ≡ none → d ≡ none → e ≡ none
+way6 : (a b c d e : Option Refusal) (s : Span) → a ≡ None → b ≡ None → c ≡ None → d ≡ None → e ≡ None
     → Ok s ≡ placed_by (or_else a (or_else b (or_else c (or_else d e)))) s
 unfolding or_else
 way6 a b c d e s h i j k l = rw (h, i, j, k, l)
 
-fits : (x y : ℕ) (f : Refusal) → x ≤ y → unless (leb x y) f ≡ none
+fits : (x y : ℕ) (f : Refusal) → x ≤ y → unless (leb x y) f ≡ None
 unfolding unless
 fits x y f h = rw (le-leb x y h)
 
-exceeds : (x y : ℕ) (f : Refusal) → y < x → unless (leb x y) f ≡ some f
+exceeds : (x y : ℕ) (f : Refusal) → y < x → unless (leb x y) f ≡ Some f
 unfolding unless
 exceeds x y f h = rw (lt-leb x y h)
 
 -- a group that is refused across
 module _ (c : Config) (q : Rect) (r : Row) (o : Sums) where
-  first_of_all : (a b : Option Refusal) (f : Refusal) → a ≡ some f → or_else a b ≡ some f
+  first_of_all : (a b : Option Refusal) (f : Refusal) → a ≡ Some f → or_else a b ≡ Some f
   unfolding or_else
   first_of_all a b f h = rw h
 
-  second : (a b d : Option Refusal) (f : Refusal) → a ≡ none → b ≡ some f → or_else a (or_else b d) ≡ some f
+  second : (a b d : Option Refusal) (f : Refusal) → a ≡ None → b ≡ Some f → or_else a (or_else b d) ≡ Some f
   unfolding or_else
   second a b d f h k = rw (h, k)
 
-  pub across_stops : (f : Refusal) → fault_end r (across_fault q o) ≡ Err f → (a b : ℕ) (d : Option (ℕ × ℕ)) → fault_with c q r o a b d ≡ some f
+  pub across_stops : (f : Refusal) → fault_end r (across_fault q o) ≡ Err f → (a b : ℕ) (d : Option Fault) → fault_with c q r o a b d ≡ Some f
   unfolding fault_with
   across_stops f h a b d = step o.fault (ltb q.width (o.before + o.after)) refl h
     where
-      step : (m : Opt Fault) (u : Bool) → ltb q.width (o.before + o.after) ≡ u
+      step : (m : Option Fault) (u : Bool) → ltb q.width (o.before + o.after) ≡ u
           → fault_end r (option_or m (pick u (Some (record { number = 13; detail = 0 })) None)) ≡ Err f
-          → or_else (fault_at r (fault_of m)) (or_else (unless (leb (o.before + o.after) q.width) (refusal_of r 13 0))
+          → or_else (fault_at r m) (or_else (unless (leb (o.before + o.after) q.width) (refusal_of r 13 0))
           (or_else (fault_at r d) (or_else (unless (leb (a + b) q.height) (refusal_of r 13 0))
           (unless (leb r.height (base_with c q r o a b)) (refusal_of r 14 0)))))
-          ≡ some f
+          ≡ Some f
       step None true l g =
           let e : refusal_of r 13 0 ≡ f = cc in
           rw (← e) (second _ _ _ (refusal_of r 13 0) refl (exceeds (o.before + o.after) q.width (refusal_of r 13 0) (ltb-true q.width (o.before + o.after) l)))
       step None false l g = cc
-      step (Some x) u l g = let e : refusal_of r x.number x.detail ≡ f = cc in first_of_all _ _ f (ap (λ (y : Refusal). some y) e)
+      step (Some x) u l g = let e : refusal_of r x.number x.detail ≡ f = cc in first_of_all _ _ f (ap (λ (y : Refusal). Some y) e)
 
 -- v are the heights of the row's line
 module _ (c : Config) (q : Rect) (r : Row) (o : Sums) (v : Heights) {x : ℕ} (k : Crossed c q r o x) where
-  a_none : fault_at r (fault_of o.fault) ≡ none
+  a_none : fault_at r o.fault ≡ None
   a_none = rw k.fine
 
-  b_none : unless (leb (o.before + o.after) q.width) (refusal_of r 13 0) ≡ none
+  b_none : unless (leb (o.before + o.after) q.width) (refusal_of r 13 0) ≡ None
   b_none = fits (o.before + o.after) q.width (refusal_of r 13 0) k.wide
 
   pub font_faulty : {f : Fault} → v.fault ≡ Some f → Err (refusal_of r f.number f.detail) ≡ placed_with c q r o v
@@ -146,7 +144,7 @@ module _ (c : Config) (q : Rect) (r : Row) (o : Sums) (v : Heights) {x : ℕ} (k
   font_faulty h = way3 _ _ _ _ _ _ _ a_none b_none (rw h)
 
   module _ (z : v.fault ≡ None) where
-    c_none : fault_at r (fault_of v.fault) ≡ none
+    c_none : fault_at r v.fault ≡ None
     c_none = rw z
 
     pub too_high : q.height < v.above + v.below → Err (refusal_of r 13 0) ≡ placed_with c q r o v
@@ -155,7 +153,7 @@ module _ (c : Config) (q : Rect) (r : Row) (o : Sums) (v : Heights) {x : ℕ} (k
 
     -- t is the baseline
     module _ (y : v.above + v.below ≤ q.height) {t : ℕ} (et : t ≡ stands_at r.just_page c.char_height q.top q.height v.above v.below) where
-      d_none : unless (leb (v.above + v.below) q.height) (refusal_of r 13 0) ≡ none
+      d_none : unless (leb (v.above + v.below) q.height) (refusal_of r 13 0) ≡ None
       d_none = fits (v.above + v.below) q.height (refusal_of r 13 0) y
 
       base : ℕ
@@ -201,21 +199,21 @@ width_part (e ∷ es) (suc i) o h = width_part es i (advanced (row_at es i) o e)
 
 -- ---- `place_down`
 
-none_first : (a b : Option Refusal) → a ≡ none → or_else a b ≡ b
+none_first : (a b : Option Refusal) → a ≡ None → or_else a b ≡ b
 unfolding or_else
 none_first a b e = rw e
 
-some_first : (f : Refusal) (a b : Option Refusal) → a ≡ some f → or_else a b ≡ some f
+some_first : (f : Refusal) (a b : Option Refusal) → a ≡ Some f → or_else a b ≡ Some f
 unfolding or_else
 some_first f a b e = rw e
 
-err_is : (f : Refusal) (w : Option Refusal) (s : Span) → Err f ≡ placed_by w s → w ≡ some f
-err_is f none s e = cc
-err_is f (some g) s e = cc
+err_is : (f : Refusal) (w : Option Refusal) (s : Span) → Err f ≡ placed_by w s → w ≡ Some f
+err_is f None s e = cc
+err_is f (Some g) s e = cc
 
-ok_is : (a : Span) (w : Option Refusal) (s : Span) → Ok a ≡ placed_by w s → (w ≡ none) × (a ≡ s)
-ok_is a none s e = (refl, cc)
-ok_is a (some g) s e = cc
+ok_is : (a : Span) (w : Option Refusal) (s : Span) → Ok a ≡ placed_by w s → (w ≡ None) × (a ≡ s)
+ok_is a None s e = (refl, cc)
+ok_is a (Some g) s e = cc
 
 pub below_m : (m : ℕ) (rs : List Row) → m ≤ length rs → {i : ℕ} → i < length (take m rs) → i < m
 below_m m rs h k = omega (arith, length-take-le m rs h)
@@ -234,25 +232,8 @@ pub record Placing (p : Pass) (m : ℕ) (out : List Span) (page : PageLines) (i 
 own_lines : {ch : ℕ} {rows : List Row} {just : ℕ} {page : PageLines} → PageHeights ch rows just page → PageHeights ch rows page.just page
 own_lines {ch} {rows} {just} {page} h = subst (λ (j : ℕ). PageHeights ch rows j page) (sym h.page) h
 
-pub placing_start : {p : Pass} {m : ℕ} {out : List Span} {just : ℕ} {page : PageLines} → DownAsked p out m
-    → PageHeights p.config.char_height p.rows.now just page → Placing p m out page 0
-placing_start a h =
-    record { few = a.few; room = a.room; lines = own_lines h; faults = refl; records = refl; marked = λ j q k. a.marked j k }
-
 module _ {p : Pass} {m : ℕ} {out : List Span} {page : PageLines} {i : ℕ} (z : Placing p m out page i) where
-  pub placing_end : i ≡ m → PlacedDown p m out (Ok tt)
-  placing_end e =
-      let f : Row → Option Refusal = span_fault_at p.config p.rect p.rows.now in
-      record {
-        fault = sym (at_drop_all (first_fault f) (take m p.rows.now) i (omega (arith, length-take-le m p.rows.now z.few))) ∙ z.faults;
-        written = λ _. rw e at z.records;
-        room = z.room;
-      }
-
   module _ (more : i < m) where
-    pub mark_some : 0 < mark_at out i
-    mark_some = (z.marked i (omega arith) more).some
-
     -- r is the row, v its heights; the lines of page' are its own
     module _ {r : Row} (er : r ≡ row_at p.rows.now i) {page' : PageLines} (h : PageHeights p.config.char_height p.rows.now r.just_page page')
         (fits : r.line < 256) {v : Heights} (ev : v ≡ heights_in page' r.line) where
@@ -304,7 +285,7 @@ module _ {p : Pass} {m : ℕ} {out : List Span} {page : PageLines} {i : ℕ} (z 
         pub placing_on : {s : Span} → a ≡ Ok s → Placing p m (set out i s) page' (i + 1)
         unfolding fault later
         placing_on {s} k =
-            let fit : (fault ≡ none) × (s ≡ record_at p.config p.rect p.rows.now r) = ok_is s fault _ (sym k ∙ answered) in
+            let fit : (fault ≡ None) × (s ≡ record_at p.config p.rect p.rows.now r) = ok_is s fault _ (sym k ∙ answered) in
             let done : List Span = map (record_at p.config p.rect p.rows.now) (take i p.rows.now) in
             record {
               few = z.few;
@@ -317,7 +298,8 @@ module _ {p : Pass} {m : ℕ} {out : List Span} {page : PageLines} {i : ℕ} (z 
                   ∙ ap (λ (x : Row). done ++ (record_at p.config p.rect p.rows.now x ∷ [])) er
                   ∙ sym (map-append (record_at p.config p.rect p.rows.now) (take i p.rows.now) (row_at p.rows.now i ∷ []))
                   ∙ ap (map (record_at p.config p.rect p.rows.now)) (sym (take_more p.rows.now i blank_row (omega (arith, z.few))));
-              marked = λ j d g. marked_as (ap (λ (y : Span). y.x) (sym (span_stays out i s (set out i s) refl j (λ x. omega arith)))) (z.marked j (omega arith) g);
+              marked = λ j d g.
+                  marked_as (ap (λ (y : Span). y.x) (sym (span_stays out i s (set out i s) refl j (λ x. omega arith)))) (z.marked j (omega arith) g);
             }
 
 -- ---- `place_rows`
@@ -335,16 +317,13 @@ rows_ready {p} {out} h =
 
 else_assoc : (a b d : Option Refusal) → or_else (or_else a b) d ≡ or_else a (or_else b d)
 unfolding or_else
-else_assoc none b d = refl
-else_assoc (some y) b d = refl
+else_assoc None b d = refl
+else_assoc (Some y) b d = refl
 
 faults_split : (f : Row → Option Refusal) (xs ys : List Row) → first_fault f (xs ++ ys) ≡ or_else (first_fault f xs) (first_fault f ys)
 unfolding or_else
 faults_split f [] ys = refl
 faults_split f (x ∷ xs) ys = ap (or_else (f x)) (faults_split f xs ys) ∙ sym (else_assoc (f x) (first_fault f xs) (first_fault f ys))
-
-pub down_asks : {p : Pass} {out : List Span} {a : Across} → PlacedAcross p out a → DownAsked p out a.count
-down_asks x = record { few = x.few; room = x.room; marked = x.marked }
 
 faults_at : Pass → Row → Option Refusal
 faults_at p = span_fault_at p.config p.rect p.rows.now
@@ -358,7 +337,8 @@ module _ {p : Pass} {out : List Span} {a : Across} (x : PlacedAcross p out a) wh
 
   pub rows_refused : {out' : List Span} {f : Refusal} → PlacedDown p a.count out' (Err f) → RowByRow p out' (Err f)
   unfolding faults_at
-  rows_refused {f = f} y = record { fault = sym (some_first f _ (first_fault (faults_at p) (drop a.count p.rows.now)) (sym y.fault)) ∙ sym split; written = λ g. cc }
+  rows_refused {f = f} y =
+      record { fault = sym (some_first f _ (first_fault (faults_at p) (drop a.count p.rows.now)) (sym y.fault)) ∙ sym split; written = λ g. cc }
 
   module _ {out' : List Span} (y : PlacedDown p a.count out' (Ok tt)) where
     after : first_fault (faults_at p) (drop a.count p.rows.now) ≡ first_fault (faults_at p) p.rows.now
@@ -406,13 +386,13 @@ pass_empty {c} {q} {rows} {out} a e =
     record { fault = rw x; written = λ _. rw (x, y) }
 
 -- 9, and else row by row
-pub pass_back : {c : Config} {q : Rect} {rows : List Row} {out : List Span} {f : Refusal} → some f ≡ back_rows 0 0 0 rows
+pub pass_back : {c : Config} {q : Rect} {rows : List Row} {out : List Span} {f : Refusal} → Some f ≡ back_rows 0 0 0 rows
     → PassPlaced c q rows out (Err f)
 unfolding rows_fault
 pass_back {c} {q} {rows} {f = f} e =
     record { fault = sym (some_first f (back_rows 0 0 0 rows) (first_fault (span_fault_at c q rows) rows) (sym e)); written = λ g. cc }
 
-pub pass_on : {p : Pass} → none ≡ back_rows 0 0 0 p.rows.now → {out : List Span} {r : Result (Unit {0}) Refusal} → RowByRow p out r
+pub pass_on : {p : Pass} → None ≡ back_rows 0 0 0 p.rows.now → {out : List Span} {r : Result (Unit {0}) Refusal} → RowByRow p out r
     → PassPlaced p.config p.rect p.rows.now out r
 unfolding rows_fault
 pass_on {p} e d =

@@ -1,8 +1,7 @@
 -- Document 01, "Placing", over the measured rows of a pass: the records, and the first of refusals 9 to 14.
-use Rattle.std.specs.Prelude.{ℕ, suc, ◌+◌, ◌-◌, ◌/◌, ◌≤◌, ◌≡◌, Bool, not, ◌&&◌, ◌||◌, List, [], ◌∷◌, map, leb, ltb, eqb, length, Result, Ok, Err, Some, None}
-use Rattle.std.specs.Prelude.{Option as Opt}
+use Rattle.std.specs.Prelude.{ℕ, suc, ◌+◌, ◌-◌, ◌/◌, ◌≤◌, ◌≡◌, Bool, not, ◌&&◌, ◌||◌, List, [], ◌∷◌, map, leb, ltb, eqb, length}
+use Rattle.std.specs.Prelude.{Option, Some, None, Result, Ok, Err}
 use Rattle.std.specs.Option.{option_or}
-use Rattle.std.proofs.Math.Option.{Option, none, some}
 use Rattle.base.specs.Pick.{pick}
 use Rattle.refusal.specs.declared.Refusal.{Refusal}
 use Rattle.records.specs.declared.Config.{Config}
@@ -10,9 +9,8 @@ use Rattle.layout.specs.declared.Rect.{Rect}
 use Rattle.layout.specs.declared.Span.{Span}
 use Rattle.refusal.specs.Refusals.{refusal}
 use Rattle.layout.specs.Placing.{trunc, or_else, unless, first_fault, place_x, above, below, baseline}
-use Rattle.rows.specs.declared.Fault.{Fault}
+use Rattle.layout.specs.declared.Fault.{Fault}
 use Rattle.rows.specs.declared.Row.{Row}
-use Rattle.rows.specs.Measured.{fault_of}
 use Rattle.sums.specs.declared.Sums.{Sums}
 use Rattle.sums.specs.Sums.{sums, none_yet}
 use Rattle.lines.specs.declared.PageLines.{PageLines}
@@ -22,8 +20,8 @@ use Rattle.place.specs.declared.shared.Pass.{Pass}
 
 -- the refusal of an answer, if it is one
 abbrev pub refused_by : {A : Type 0} → Result A Refusal → Option Refusal
-refused_by (Ok x) = none
-refused_by (Err f) = some f
+refused_by (Ok x) = None
+refused_by (Err f) = Some f
 
 -- ---- 9
 
@@ -32,7 +30,7 @@ abbrev pub goes_back_from : ℕ → ℕ → ℕ → Row → Bool
 goes_back_from j l k e = ltb e.just_page j || (eqb e.just_page j && (eqb e.line l && ltb e.just_line k))
 
 abbrev pub back_rows : ℕ → ℕ → ℕ → List Row → Option Refusal
-back_rows j l k [] = none
+back_rows j l k [] = None
 back_rows j l k (e ∷ es) =
     or_else (unless (not (goes_back_from j l k e)) (refusal 9 e.start e.len 0)) (back_rows e.just_page e.line e.just_line es)
 
@@ -65,9 +63,9 @@ record_by q r x y =
 abbrev pub refusal_of : Row → ℕ → ℕ → Refusal
 refusal_of r n d = refusal n r.start r.len d
 
-abbrev pub fault_at : Row → Option (ℕ × ℕ) → Option Refusal
-fault_at r none = none
-fault_at r (some f) = some (refusal_of r f.0 f.1)
+abbrev pub fault_at : Row → Option Fault → Option Refusal
+fault_at r None = None
+fault_at r (Some f) = Some (refusal_of r f.number f.detail)
 
 -- a row with the sums o of its group, a above the foot of its line and b below it, and the first font fault f of its page's lines
 module _ (c : Config) (q : Rect) (r : Row) (o : Sums) (a b : ℕ) where
@@ -77,20 +75,20 @@ module _ (c : Config) (q : Rect) (r : Row) (o : Sums) (a b : ℕ) where
   unfoldable pub record_with : Span
   record_with = record_by q r (place_x r.just_line c.char_width q o.before o.after) (base_with - r.height)
 
-  unfoldable pub fault_with : Option (ℕ × ℕ) → Option Refusal
+  unfoldable pub fault_with : Option Fault → Option Refusal
   fault_with f =
-      or_else (fault_at r (fault_of o.fault))
+      or_else (fault_at r o.fault)
       (or_else (unless (leb (o.before + o.after) q.width) (refusal_of r 13 0))
       (or_else (fault_at r f)
       (or_else (unless (leb (a + b) q.height) (refusal_of r 13 0))
       (unless (leb r.height base_with) (refusal_of r 14 0)))))
 
 -- the fault of a group by its sums: its first, or 13
-abbrev pub across_fault : Rect → Sums → Opt Fault
+abbrev pub across_fault : Rect → Sums → Option Fault
 across_fault q o = option_or o.fault (pick (ltb q.width (o.before + o.after)) (Some (record { number = 13; detail = 0 })) None)
 
 -- a fault of a row refuses it
-abbrev pub fault_end : Row → Opt Fault → Result (Unit {0}) Refusal
+abbrev pub fault_end : Row → Option Fault → Result (Unit {0}) Refusal
 fault_end r None = Ok tt
 fault_end r (Some f) = Err (refusal_of r f.number f.detail)
 
@@ -106,12 +104,12 @@ pub record Crossed (c : Config) (q : Rect) (r : Row) (o : Sums) (x : ℕ) : Type
 
 -- a refusal, or else a record
 abbrev pub placed_by : Option Refusal → Span → Result Span Refusal
-placed_by none s = Ok s
-placed_by (some f) s = Err f
+placed_by None s = Ok s
+placed_by (Some f) s = Err f
 
 -- the same with the heights v
 unfoldable pub placed_with : Config → Rect → Row → Sums → Heights → Result Span Refusal
-placed_with c q r o v = placed_by (fault_with c q r o v.above v.below (fault_of v.fault)) (record_with c q r o v.above v.below)
+placed_with c q r o v = placed_by (fault_with c q r o v.above v.below v.fault) (record_with c q r o v.above v.below)
 
 -- a row and heights that it can be placed with
 pub record SpanAsked (p : Pass) (r : Row) (v : Heights) : Type 0 where
@@ -126,10 +124,10 @@ SpanPlaced p r x v a = (o : Sums) → Crossed p.config p.rect r o x → a ≡ pl
 
 module _ (c : Config) (q : Rect) (rs : List Row) where
   unfoldable pub above_at : Row → ℕ
-  above_at r = above c.char_height r.line none (lines_from r.just_page [] rs)
+  above_at r = above c.char_height r.line None (lines_from r.just_page [] rs)
 
   unfoldable pub below_at : Row → ℕ
-  below_at r = below c.char_height r.line none (lines_from r.just_page [] rs)
+  below_at r = below c.char_height r.line None (lines_from r.just_page [] rs)
 
   unfoldable pub record_at : Row → Span
   record_at r = record_with c q r (sums r none_yet rs) (above_at r) (below_at r)

@@ -1,18 +1,11 @@
 -- The row of an entry: what the fonts say of it is taken once, and kept with it.
-use Rattle.std.specs.Prelude.{ℕ, ◌≡◌, Bool, true, false, eqb, Option, Some, None}
+use Rattle.std.specs.Prelude.{ℕ, ◌≡◌, eqb, Option, Some, None, is_some}
 use Rattle.base.specs.Pick.{pick}
-use Rattle.value.specs.declared.OptNum.{OptNum}
-use Rattle.value.specs.declared.OptNum.TheVariants.{Some as num, None as no_num}
 use Rattle.layout.specs.declared.Entry.{Entry}
 use Rattle.layout.specs.declared.Fault.{Fault}
 use Rattle.layout.specs.Types.{Meter}
 use Rattle.rows.specs.declared.Gauge.{Gauge}
 use Rattle.rows.specs.declared.Row.{Row}
-
--- whether there is a number
-abbrev pub flag : OptNum → Bool
-flag no_num = false
-flag (num n) = true
 
 -- what the fonts say of a span
 abbrev pub gauge_of : Meter → Entry → Gauge
@@ -38,7 +31,7 @@ row_by e g =
       font = e.state.font;
       line = e.state.line;
       span = e.state.span;
-      fixed = flag e.state.char_spacing;
+      fixed = is_some e.state.char_spacing;
       spacing = g.spacing;
       lead = e.state.line_spacing;
       height = g.height;
@@ -57,5 +50,5 @@ font_only (Some f) = pick (eqb f.number 12) None (Some f)
 
 -- rows tell what a meter says: a span's spacing is its [sc] value where one holds; a font's fault comes first
 pub record RowTells (m : Meter) : Type 0 where
-  pub spaced : (e : Entry) (n : ℕ) → e.state.char_spacing ≡ num n → m.spacing e ≡ n
+  pub spaced : (e : Entry) (n : ℕ) → e.state.char_spacing ≡ Some n → m.spacing e ≡ n
   pub font : (e : Entry) → font_only (m.fault e) ≡ m.font_fault e

@@ -1,7 +1,6 @@
 -- The rows of a pass and the records of an answer, each in a lent slice: what is at a place, and what stands there once it is written.
 use Rattle.std.specs.Prelude.{ℕ, zero, suc, ◌≤◌, ◌≡◌, List, [], ◌∷◌, length, get_or, set, take, false, None}
 use Rattle.layout.specs.declared.Span.{Span}
-use Rattle.value.specs.declared.OptNum.TheVariants.{Some as num}
 use Rattle.rows.specs.declared.Row.{Row}
 
 -- the elements that f gives for the k places from i on
@@ -30,7 +29,7 @@ blank_row =
       span = 0;
       fixed = false;
       spacing = 0;
-      lead = num 0;
+      lead = None;
       height = 0;
       font_spacing = 0;
       fault = None;

@@ -3,11 +3,10 @@
 
 ghost use Rattle.std.specs.Prelude.{◌≡◌, ◌+◌, ◌<◌, length};
 ghost use Rattle.layout.specs.Placing.{half_up};
-ghost use Rattle.rows.specs.Measured.{flag as flag_of, row_by};
+ghost use Rattle.rows.specs.Measured.{row_by};
 ghost use Rattle.rows.specs.Rows.{link_at, mark_at, LinkPut, MarkPut};
 
 use layout::{Entry, Fault, Span};
-use value::OptNum;
 
 // An entry of a pass with its measures. kind to code: as in its record. just_page to span: of the state it was read in.
 // spacing: its [sc] value where fixed, else its font's. lead: the line spacing of the [nl] before it.
@@ -25,7 +24,7 @@ pub struct Row {
     pub span: u8,
     pub fixed: bool,
     pub spacing: u16,
-    pub lead: OptNum,
+    pub lead: Option<u16>,
     pub height: u16,
     pub font_spacing: u16,
     pub fault: Option<Fault>,
@@ -40,16 +39,6 @@ pub struct Gauge {
     pub font_spacing: u16,
     pub width: u32,
     pub fault: Option<Fault>,
-}
-
-// Whether there is a number.
-fn flag(o: OptNum) -> bool
-    ensures { result ≡ flag_of o }
-{
-    match o {
-        OptNum::Some(_) => true,
-        OptNum::None => false,
-    }
 }
 
 // The row of a span with its gauge.
@@ -67,7 +56,7 @@ pub fn row_by(e: Entry, g: Gauge) -> Row
         font: st.font,
         line: st.line,
         span: st.span,
-        fixed: flag(st.char_spacing),
+        fixed: st.char_spacing.is_some(),
         spacing: g.spacing,
         lead: st.line_spacing,
         height: g.height,
@@ -95,7 +84,7 @@ pub const BLANK_ROW: Row = Row {
     span: 0,
     fixed: false,
     spacing: 0,
-    lead: OptNum::None,
+    lead: None,
     height: 0,
     font_spacing: 0,
     fault: None,

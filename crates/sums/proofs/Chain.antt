@@ -8,14 +8,14 @@ use lib.Dec.{eqb}
 use lib.ListN.{length, get_or, set, take, length-set, replicate}
 use lib.Seq.{get_or-set_same, get_or-set_other}
 use borrow.Author.Tests.{eqb-true, eqb-false}
-use Rattle.std.proofs.lemmas.List.{take_more, take_all, get_or-replicate}
+use Rattle.std.proofs.lemmas.List.{take_more, get_or-replicate}
 use Rattle.base.specs.Pick.{pick}
 use Rattle.layout.specs.declared.Span.{Span}
 use Rattle.rows.specs.declared.Row.{Row}
 use Rattle.rows.specs.Rows.{blank_row, row_at, link_at, mark_at, LinkPut, MarkPut}
 use Rattle.rows.proofs.Laws.{link_put, link_stays, marks_stay, mark_put, mark_stays, links_stay}
 use Rattle.sums.specs.declared.Sums.{Sums}
-use Rattle.sums.specs.Sums.{advanced, sums, none_yet, Addable, GrownTo, SumsOf}
+use Rattle.sums.specs.Sums.{advanced, sums, none_yet, GrownTo}
 use Rattle.sums.specs.Chain.{first_in, until_last, RowsAsked, Linked, Chained, Walk}
 use Rattle.sums.proofs.Groups.{sums_last, other_line}
 
@@ -172,9 +172,6 @@ module _ {rows : List Row} {out : List Span} {heads : List ℕ} (c : Chained row
         ∙ last_row rows q (k - 1) (omega (arith, w.within))
         ∙ ap (λ (m : ℕ). advanced q (sums q none_yet (until_last rows m)) (row_at rows (length rows - m))) one_back
 
-pub walk_done : (rows : List Row) (k : ℕ) → k ≤ 0 → until_last rows k ≡ rows
-walk_done rows k h = take_all (length rows - k) rows (omega arith)
-
 -- ---- `offset_horiz`: the sums of the rows before the last k
 
 pub record Summing (rows : List Row) (out : List Span) (heads : List ℕ) (r : Row) (o : Sums) (k : ℕ) : Type 0 where
@@ -196,13 +193,6 @@ sums_start c {r} h e f =
     }
 
 module _ {rows : List Row} {out : List Span} {heads : List ℕ} {r : Row} {o : Sums} {k : ℕ} (z : Summing rows out heads r o k) where
-  pub sums_room : Addable o
-  sums_room =
-      record {
-        sum = omega (arith, z.most, z.chained.asked.few);
-        rows = omega (arith, z.rows_in, z.chained.asked.few);
-      }
-
   module _ (more : 0 < k) {k' : ℕ} (e : k' ≡ link_at out (length rows - k)) where
     pub sums_less : k' < k
     sums_less = walk_less z.chained z.walk more e
@@ -216,10 +206,3 @@ module _ {rows : List Row} {out : List Span} {heads : List ℕ} {r : Row} {o : S
           most = omega (arith, d.most, z.most, sums_less, z.walk.within);
           rows_in = omega (arith, d.rows, z.rows_in, sums_less, z.walk.within);
         }
-
-  pub sums_end : k ≤ 0 → SumsOf rows r o
-  sums_end h =
-      record {
-        is = z.is ∙ ap (sums r none_yet) (walk_done rows k h);
-        most = omega (arith, z.most, z.chained.asked.few);
-      }

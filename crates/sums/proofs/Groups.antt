@@ -5,6 +5,7 @@ use mathlib.Core.Bool.{Bool, true, false, ◌&&◌}
 use mathlib.Core.List.{List, [], ◌∷◌, ◌++◌}
 use native.Mathlib.Omega.{arith}
 use lib.Dec.{leb, ltb, eqb}
+use Rattle.std.proofs.lemmas.Bool.{and_parts}
 use borrow.Author.Tests.{eq-eqb, ne_eqb, eqb-true, eqb-false}
 use Rattle.base.specs.Pick.{pick}
 use Rattle.rows.specs.declared.Row.{Row}
@@ -17,21 +18,17 @@ same_self r = rw (eq-eqb r.just_page r.just_page refl, eq-eqb r.line r.line refl
 
 -- q is of the group of r
 module _ (r q : Row) (h : same_row r q ≡ true) where
-  both : (a b : Bool) → a && b ≡ true → (a ≡ true) × (b ≡ true)
-  both true b q = (refl, q)
-  both false b q = absurd (let z : ◌≡◌ {A = ℕ} 0 1 = cc in omega arith)
-
   page_is : r.just_page ≡ q.just_page
-  page_is = eqb-true r.just_page q.just_page (both (eqb r.just_page q.just_page) _ h).0
+  page_is = eqb-true r.just_page q.just_page (and_parts _ _ h).0
 
   rest : eqb r.line q.line && eqb r.just_line q.just_line ≡ true
-  rest = (both (eqb r.just_page q.just_page) _ h).1
+  rest = (and_parts (eqb r.just_page q.just_page) _ h).1
 
   pub line_is_law : r.line ≡ q.line
-  line_is_law = eqb-true r.line q.line (both (eqb r.line q.line) (eqb r.just_line q.just_line) rest).0
+  line_is_law = eqb-true r.line q.line (and_parts (eqb r.line q.line) (eqb r.just_line q.just_line) rest).0
 
   just_is : r.just_line ≡ q.just_line
-  just_is = eqb-true r.just_line q.just_line (both (eqb r.line q.line) (eqb r.just_line q.just_line) rest).1
+  just_is = eqb-true r.just_line q.just_line (and_parts (eqb r.line q.line) (eqb r.just_line q.just_line) rest).1
 
   pub same_as : (e : Row) → same_row r e ≡ same_row q e
   same_as e = rw (page_is, line_is_law, just_is)
@@ -70,8 +67,8 @@ alike_on r q h a b e k = step (same_row r e) (same_row q e) (same_as r q h e)
   where
     step : (t u : Bool) → t ≡ u → Alike (pick t (joined r.span a e) a) (pick u (joined q.span b e) b)
     step true true p = alike_join r.span q.span a b e k
-    step true false p = absurd (let z : ◌≡◌ {A = ℕ} 0 1 = cc in omega arith)
-    step false true p = absurd (let z : ◌≡◌ {A = ℕ} 0 1 = cc in omega arith)
+    step true false p = cc
+    step false true p = cc
     step false false p = k
 
 alike : (r q : Row) → same_row r q ≡ true → (a b : Sums) (es : List Row) → Alike a b → Alike (sums r a es) (sums q b es)

@@ -19,10 +19,10 @@ use Rattle.rows.specs.Rows.{row_at, link_at}
 use Rattle.sums.specs.declared.Sums.{Sums}
 use Rattle.sums.specs.Sums.{same_row, gap_of, joined, sums, none_yet, GrownTo}
 use Rattle.sums.specs.Chain.{until_last, Chained, Walk}
-use Rattle.sums.specs.Table.{upto, Small, AddedRow, TableOf, Gathered, Room, Entered}
+use Rattle.sums.specs.Table.{upto, Small, AddedRow, Gathered, Entered}
 use Rattle.sums.proofs.Laws.{advance_yes, advance_no}
 use Rattle.sums.proofs.Groups.{line_is_law, same_as, alike_gap, alike_all, sums_last}
-use Rattle.sums.proofs.Chain.{walk_start, walk_begun, walk_less, walk_on, walked, walk_done}
+use Rattle.sums.proofs.Chain.{walk_start, walk_begun, walk_less, walk_on, walked}
 
 -- ---- `add_row`
 
@@ -155,15 +155,6 @@ gather_start c {l} el {r} h eo ek =
 
 module _ {rows : List Row} {out : List Span} {heads : List ℕ} {r : Row} {l : List ℕ} {o : Sums} {k : ℕ}
     (z : Gathering rows out heads r l o k) where
-  pub gather_room : Room l o
-  gather_room =
-      let few : length rows ≤ 2048 = z.chained.asked.few in
-      record {
-        small = small_more z.gathered.small (omega arith);
-        sum = omega (arith, z.gathered.most);
-        rows = omega (arith, z.gathered.rows);
-      }
-
   module _ (more : 0 < k) {k' : ℕ} (e : k' ≡ link_at out (length rows - k)) where
     pub gather_less : k' < k
     gather_less = walk_less z.chained z.walk more e
@@ -192,22 +183,7 @@ module _ {rows : List Row} {out : List Span} {heads : List ℕ} {r : Row} {l : L
         on : (p : Row) → p.line ≡ r.line → sums p none_yet (until_last rows k ++ (here ∷ [])) ≡ sums p none_yet (until_last rows k')
         on p hp = sums_last p none_yet (until_last rows k) here ∙ sym (walked z.chained z.walk more e p hp)
 
-  pub gather_end : k ≤ 0 → TableOf rows r l
-  gather_end h =
-      record {
-        size = z.gathered.small.size;
-        tells = λ q s. ap (λ (rs : List Row). (sums q none_yet rs).before) (sym (walk_done rows k h)) ∙ z.gathered.tells q s;
-      }
-
 -- ---- `reach`
-
-upto_most : (l : List ℕ) (j k : ℕ) → j ≤ k → upto l j ≤ upto l k
-upto_most l j zero h = let e : j ≡ 0 = omega arith in rw e (omega arith)
-upto_most l j (suc k) h = step (leb j k) refl (upto_most l j k)
-  where
-    step : (t : Bool) → leb j k ≡ t → (j ≤ k → upto l j ≤ upto l k) → upto l j ≤ upto l (suc k)
-    step true q ih = omega (arith, ih (leb-true j k q))
-    step false q ih = let e : j ≡ suc k = omega (arith, leb-false j k q) in rw e (omega arith)
 
 -- the sum of the places up to k is that of the first k + 1, and splits at p
 pub upto_is : (l : List ℕ) (k : ℕ) → k < length l → upto l k ≡ sum (take (k + 1) l)

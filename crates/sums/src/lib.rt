@@ -8,8 +8,8 @@ ghost use Rattle.sums.specs.Sums.{same_row, gap_of, joined, advanced, none_yet, 
 ghost use Rattle.sums.specs.Chain.{RowsAsked, Chained, ChainedTo};
 ghost use Rattle.sums.specs.Table.{upto, Small, AddedRow, Room, Entered, TableOf};
 
-use layout::Span;
-use rows::{Fault, Row};
+use layout::{Fault, Span};
+use rows::Row;
 
 // Of the rows so far: what stands before the span and what from there on, how many of them are of the group, the spacing of its last row, and
 // its first fault.
@@ -142,7 +142,7 @@ fn enter(table: &mut [u64; 257], r: &Row, o: Sums, e: &Row) -> Sums
     o
 }
 
-// The table of the group of r, made in a table of zeros.
+// The table of the group of r, made in a table of zeros. The walk is that of `offset_horiz`: one fold for both would hand the table from row to row.
 pub fn gather(rows: &[Row], out: &[Span], heads: &[u16; 256], r: &Row, table: &mut [u64; 257])
     requires { Chained rows.now out.now heads.now × (table.old ≡ replicate 257 0) }
     ensures { TableOf rows.now r.now table.new }

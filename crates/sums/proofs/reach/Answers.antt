@@ -6,7 +6,8 @@ pub total-requires : goal.total-requires
 total-requires c = omega (arith, upto_split c.args.table.now c.args.p c.args.k c.if-p-k.true (omega arith), c.requires.small)
 
 pub overflow_add-result : goal.overflow_add-result
-overflow_add-result c = omega (arith, c.requires.reached, c.total.ensures, upto_split c.args.table.now c.args.p c.args.k c.if-p-k.true (omega arith), c.requires.small)
+overflow_add-result c =
+    omega (arith, c.requires.reached, c.total.ensures, upto_split c.args.table.now c.args.p c.args.k c.if-p-k.true (omega arith), c.requires.small)
 
 pub returns-then-p-k : goal.returns-then-p-k
 returns-then-p-k c = omega (arith, c.requires.reached, c.total.ensures, upto_split c.args.table.now c.args.p c.args.k c.if-p-k.true (omega arith))

@@ -19,9 +19,11 @@ returns-in_err-out c =
     let p = err_from_is_err_and c.from_residual.result c.from_residual.ensures.1 in
     let k : c.loop-i.i < c.args.m = below_m _ _ c.requires.few c.loop-i-test.true in
     rw (p.1, p.2)
-    (placing_stop c.loop-i.invariant k (get_or-take _ _ _ _ k) c.lines_for.ensures (omega arith) c.offset_vert-v.ensures c.mark_at-x.ensures c.place_span.ensures c.in_err-out.was)
+    (placing_stop c.loop-i.invariant k (get_or-take _ _ _ _ k) c.lines_for.ensures (omega arith) c.offset_vert-v.ensures c.mark_at-x.ensures
+    c.place_span.ensures c.in_err-out.was)
 
 pub loop-i-preserved : goal.loop-i-preserved
 loop-i-preserved c =
     let k : c.loop-i.i < c.args.m = below_m _ _ c.requires.few c.loop-i-test.true in
-    placing_on c.loop-i.invariant k (get_or-take _ _ _ _ k) c.lines_for.ensures (omega arith) c.offset_vert-v.ensures c.mark_at-x.ensures c.place_span.ensures c.in_ok-out.was
+    placing_on c.loop-i.invariant k (get_or-take _ _ _ _ k) c.lines_for.ensures (omega arith) c.offset_vert-v.ensures c.mark_at-x.ensures
+    c.place_span.ensures c.in_ok-out.was
