@@ -1,21 +1,13 @@
 -- Rows tell what the fonts' meter says.
-use Prim.Native.Nat.{ℕ}
-use mathlib.Core.Path.{◌≡◌, refl}
-use mathlib.Core.Option.{Option, none, some}
-use mathlib.Core.Bool.{Bool, true, false}
-use mathlib.Core.List.{List}
-use lib.Dec.{eqb}
+use Rattle.std.specs.Prelude.{ℕ, ◌≡◌, Bool, true, false, List, eqb, Option, Some, None, unwrap_or, Ok, Err}
+use mathlib.Core.Path.{refl}
 use Rattle.base.specs.Pick.{pick}
-use Rattle.value.specs.declared.OptNum.{OptNum}
-use Rattle.value.specs.declared.OptNum.TheVariants.{Some, None}
 use Rattle.sign.specs.Sign.{Font, sign_file}
 use Rattle.font.specs.Table.{font_numbered}
-use Rattle.font.specs.declared.Measure.{Measure}
-use Rattle.font.specs.declared.Measure.TheVariants.{Width, Missing}
+use Rattle.font.specs.Measure.{Measure}
 use Rattle.layout.specs.declared.Entry.{Entry}
-use Rattle.layout.specs.Types.{unwrap_or}
-use Rattle.layout.specs.Fonts.{version_fault, missing, measure_in, font_fault_in, spacing_in, char_fault_after, fault_in, meter_of}
-use Rattle.rows.specs.Measured.{fault_of, fault_in as fault_back, font_only, RowTells}
+use Rattle.layout.specs.Fonts.{fault, version_fault, missing, measure_in, font_fault_in, spacing_in, char_fault_after, fault_in, meter_of}
+use Rattle.rows.specs.Measured.{font_only, RowTells}
 use Rattle.counts.specs.Placing.{fonts_in, capitals_in}
 use Rattle.meter.specs.Gauges.{meter_in}
 
@@ -23,26 +15,26 @@ use Rattle.meter.specs.Gauges.{meter_in}
 module _ (msg : List ℕ) (e : Entry) (capitals : Bool) where
   record Right (o : Option Font) : Type 0 where
     spaced : (n : ℕ) → e.state.char_spacing ≡ Some n → spacing_in msg e o ≡ n
-    font : fault_of (font_only (fault_back (fault_in msg e capitals o))) ≡ font_fault_in msg e o
+    font : font_only (fault_in msg e capitals o) ≡ font_fault_in msg e o
 
-  missing_font : (m : Measure) → fault_of (font_only (fault_back (missing m))) ≡ none
-  missing_font (Width w) = refl
-  missing_font (Missing c) = refl
+  missing_font : (m : Measure) → font_only (missing m) ≡ None
+  missing_font (Ok w) = refl
+  missing_font (Err m) = refl
 
-  version_font : (v : OptNum) (f : Font) → fault_of (font_only (fault_back (char_fault_after msg e capitals (version_fault v f) f))) ≡ version_fault v f
+  version_font : (v : Option ℕ) (f : Font) → font_only (char_fault_after msg e capitals (version_fault v f) f) ≡ version_fault v f
   version_font None f = missing_font (measure_in msg e capitals f)
   version_font (Some n) f = go (eqb n f.version)
     where
-      go : (t : Bool) → fault_of (font_only (fault_back (char_fault_after msg e capitals (pick t none (some (11, 0))) f))) ≡ pick t none (some (11, 0))
+      go : (t : Bool) → font_only (char_fault_after msg e capitals (pick t None (Some (fault 11 0))) f) ≡ pick t None (Some (fault 11 0))
       go true = missing_font (measure_in msg e capitals f)
       go false = refl
 
-  spacing_none : (cs : OptNum) (n d : ℕ) → cs ≡ Some n → unwrap_or cs d ≡ n
-  spacing_none cs n d p = rw p
+  spacing_none : (o : Option ℕ) (n d : ℕ) → o ≡ Some n → unwrap_or o d ≡ n
+  spacing_none o n d p = rw p
 
   right : (o : Option Font) → Right o
-  right none = record { spaced = λ n p. spacing_none e.state.char_spacing n 0 p; font = refl }
-  right (some f) =
+  right None = record { spaced = λ n p. spacing_none e.state.char_spacing n 0 p; font = refl }
+  right (Some f) =
       record { spaced = λ n q. spacing_none e.state.char_spacing n f.char_spacing q; font = version_font e.state.version f }
 
 module _ (file msg : List ℕ) where

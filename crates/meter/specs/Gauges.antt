@@ -1,26 +1,20 @@
 -- What the fonts of a sign file say of a span, as the code takes it.
-use Rattle.std.specs.Prelude.{ℕ, ◌+◌, ◌≤◌, ◌<◌, ◌≡◌, List, [], ◌∷◌, Bool, eqb, length, take, drop, Option, Some, None}
-use Rattle.std.proofs.Math.Option.{Option as MathOption}
+use Rattle.std.specs.Prelude.{ℕ, ◌+◌, ◌≤◌, ◌<◌, ◌≡◌, List, [], ◌∷◌, Bool, eqb, length, take, drop, Option, Some, None, Ok, Err}
 use Rattle.base.specs.Pick.{pick}
-use Rattle.value.specs.declared.OptNum.{OptNum}
-use Rattle.value.specs.declared.OptNum.TheVariants.{Some as num, None as no_num}
 use Rattle.utf8.specs.Utf8.{codes}
 use Rattle.sign.specs.Sign.{Character, Font, sign_file}
 use Rattle.sign.specs.declared.FontEntry.{FontEntry}
-use Rattle.font.specs.declared.FontFound.TheVariants.{Entry as EntryIs}
-use Rattle.font.specs.Character.{characters_at, letters_at}
+use Rattle.font.specs.Character.{characters_at}
 use Rattle.font.specs.Table.{font_numbered, entry_numbered}
-use Rattle.font.specs.Widths.{Widths}
-use Rattle.font.specs.Measure.{measure_of}
-use Rattle.font.specs.declared.Measure.{Measure}
-use Rattle.font.specs.declared.Measure.TheVariants.{Width, Missing}
+use Rattle.font.specs.Measure.{Measure, measure_of}
+use Rattle.font.specs.declared.FontWidths.{FontWidths}
 use Rattle.font.specs.declared.Looked.{Looked}
 use Rattle.layout.specs.declared.Entry.{Entry}
+use Rattle.layout.specs.declared.Fault.{Fault}
 use Rattle.layout.specs.Types.{Meter}
-use Rattle.layout.specs.Fonts.{chars_of, fault_in, spacing_in, width_in, height_in, line_spacing_in, meter_of}
+use Rattle.layout.specs.Fonts.{fault, chars_of, fault_in, spacing_in, width_in, height_in, line_spacing_in, meter_of}
 use Rattle.counts.specs.Placing.{fonts_in, capitals_in, looked_in}
-use Rattle.rows.specs.Measured.{fault_in as fault_back, gauge_of, row_of}
-use Rattle.rows.specs.declared.Fault.{Fault}
+use Rattle.rows.specs.Measured.{gauge_of, row_of}
 use Rattle.rows.specs.declared.Gauge.{Gauge}
 use Rattle.rows.specs.declared.Row.{Row}
 use Rattle.meter.specs.declared.call.Call.{Call}
@@ -28,16 +22,20 @@ use Rattle.meter.specs.declared.call.Call.{Call}
 unfoldable pub meter_in : List ℕ → List ℕ → Meter
 meter_in file msg = meter_of msg (capitals_in (sign_file file)) (fonts_in (sign_file file))
 
--- the letters of a font of the call's table, and whether widths holds theirs
-abbrev pub font_letters : Call → FontEntry → List Character
-font_letters call f = letters_at call.file.now f call.table.config.capitals
+-- the font with a number, as the call's table has it
+abbrev pub numbered_in : Call → ℕ → Option FontEntry
+numbered_in call n = entry_numbered n (take call.table.count call.table.fonts)
 
-abbrev pub FontWidths : Call → FontEntry → List ℕ → Type 0
-FontWidths call f widths = Widths (font_letters call f) widths
+-- the font w is the one with a number
+pub record FontIs (call : Call) (n : ℕ) (w : FontWidths 256) : Type 0 where
+  pub entry : numbered_in call n ≡ Some w.font.entry
+  pub file : w.font.file.now ≡ call.file.now
+  pub capitals : w.font.capitals ≡ call.table.config.capitals
 
--- widths holds those of the font with a number, if the table has one
-abbrev pub WidthsOf : Call → ℕ → List ℕ → Type 0
-WidthsOf call font widths = (f : FontEntry) → entry_numbered font (take call.table.count call.table.fonts) ≡ EntryIs f → FontWidths call f widths
+-- so is a font that may be none
+abbrev pub WidthsOf : Call → ℕ → Option (FontWidths 256) → Type 0
+WidthsOf call n None = numbered_in call n ≡ None
+WidthsOf call n (Some w) = FontIs call n w
 
 -- code points that fit in 16 bits, as a refusal's detail has
 abbrev pub CodesFit : List ℕ → Type 0
@@ -46,8 +44,8 @@ CodesFit (c ∷ l) = (c < 65536) × CodesFit l
 
 -- the code of a missing character fits
 abbrev pub CodeFits : Measure → Type 0
-CodeFits (Width w) = Unit {0}
-CodeFits (Missing c) = c < 65536
+CodeFits (Ok w) = Unit {0}
+CodeFits (Err m) = m.code < 65536
 
 -- the code points of the part of a message that is an entry's
 abbrev pub part_codes : List ℕ → Entry → List ℕ
@@ -77,30 +75,25 @@ font_at file f =
     }
 
 -- 11 where the version ids differ
-abbrev pub version_fault : OptNum → ℕ → Option Fault
-version_fault no_num id = None
-version_fault (num v) id = pick (eqb v id) None (Some (record { number = 11; detail = 0 }))
-
--- 12 with its code where a character is missing
-abbrev pub missing_fault : Measure → Option Fault
-missing_fault (Width w) = None
-missing_fault (Missing c) = Some (record { number = 12; detail = c })
+abbrev pub version_fault : Option ℕ → ℕ → Option Fault
+version_fault None id = None
+version_fault (Some v) id = pick (eqb v id) None (Some (fault 11 0))
 
 -- what is said of a span in its font, if that is defined
-abbrev pub gauge_for : List ℕ → Entry → Bool → MathOption Font → Gauge
+abbrev pub gauge_for : List ℕ → Entry → Bool → Option Font → Gauge
 gauge_for msg e capitals o =
     record {
       spacing = spacing_in msg e o;
       height = height_in o;
       font_spacing = line_spacing_in o;
       width = width_in msg e capitals o;
-      fault = fault_back (fault_in msg e capitals o);
+      fault = fault_in msg e capitals o;
     }
 
--- the same, and how many characters its measure looked up
-pub record GaugedIn (call : Call) (e : Entry) (o : MathOption Font) (r : Gauge × ℕ) : Type 0 where
-  pub is : r.0 ≡ gauge_for call.msg.now e call.table.config.capitals o
-  pub looked : r.1 ≡ looked_in call.table.config.capitals (chars_of call.msg.now e) o
+-- the same in the font w, and how many characters its measure looked up
+pub record GaugedIn (call : Call) (e : Entry) (w : FontWidths 256) (r : Gauge × ℕ) : Type 0 where
+  pub is : r.0 ≡ gauge_for call.msg.now e w.font.capitals (Some (font_at w.font.file.now w.font.entry))
+  pub looked : r.1 ≡ looked_in w.font.capitals (chars_of call.msg.now e) (Some (font_at w.font.file.now w.font.entry))
 
 -- how many characters the measure of a span looks up, in the fonts of a sign file
 abbrev pub looked_by : List ℕ → List ℕ → Entry → ℕ

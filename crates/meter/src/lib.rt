@@ -1,73 +1,50 @@
 // What the fonts of a sign file say of a span: taken once for each, and kept with it in its row.
 #![tactic(auto)]
 
-ghost use Rattle.std.specs.Prelude.{◌≡◌, ◌∷◌, [], false};
-ghost use Rattle.std.proofs.Math.Option.{none, some};
-ghost use Rattle.layout.specs.Fonts.{chars_of, width_of};
-ghost use Rattle.meter.specs.Gauges.{font_letters, FontWidths, WidthsOf, part_codes, EntryIn, CodeFits, WidthFound, font_at, version_fault, missing_fault, gauge_for, GaugedIn, GaugedBy, RowTaken};
+ghost use Rattle.std.specs.Prelude.{◌≡◌, ◌∷◌, [], false, None};
+ghost use Rattle.font.specs.Character.{letters};
+ghost use Rattle.layout.specs.Fonts.{chars_of, missing};
+ghost use Rattle.meter.specs.Gauges.{WidthsOf, part_codes, EntryIn, CodeFits, WidthFound, version_fault, gauge_for, GaugedIn, GaugedBy, RowTaken};
 
 mod call;
 
 pub use call::Call;
-use font::{FontFound, Looked, Measure};
-use layout::Entry;
-use rows::{Fault, Gauge, Row};
-use sign::FontEntry;
-use value::OptNum;
-
-// The width of a character alone.
-#[tactic(auto, unfolding(font::specs::Measure::text_width, font::specs::Measure::width_after, font::specs::Measure::looked_up))]
-fn hex_width(call: &Call, f: FontEntry, widths: &[u16], code: u16, spacing: u16) -> Looked
-    requires { FontWidths call.now f widths.now }
-    ensures { WidthFound (font_letters call.now f) spacing (code ∷ []) result }
-{
-    let capitals = call.table.config.capitals;
-    let code = u32::from(code);
-    font::with_character(call.file, f, capitals, widths, 0, 0, code, spacing)
-}
+use font::{FileFont, FontWidths, Looked, Missing};
+use layout::{Entry, Fault};
+use rows::{Gauge, Row};
 
 // The width of a text of the message.
-fn part_width(call: &Call, f: FontEntry, widths: &[u16], e: Entry, spacing: u16) -> Looked
-    requires widths { FontWidths call.now f widths.now }
-    requires entry_in { EntryIn call.now e × (e.kind ≡ 0) }
-    ensures { WidthFound (font_letters call.now f) spacing (part_codes call.now.msg.now e) result }
+fn part_width(call: &Call, font: &FontWidths<256>, e: Entry, spacing: u16) -> Looked
+    requires { EntryIn call.now e × (e.kind ≡ 0) }
+    ensures { WidthFound (letters font.now.font) spacing (part_codes call.now.msg.now e) result }
 {
     let start = usize::from(e.start);
     let end = start + usize::from(e.len);
-    let capitals = call.table.config.capitals;
-    font::text_width(
-        call.file,
-        f,
-        capitals,
-        widths,
-        &call.msg[start..end],
-        spacing,
-    )
+    font.text_width(&call.msg[start..end], spacing)
 }
 
 // The width of what a span prints.
 #[tactic(auto, unfolding(font::specs::Measure::text_width, font::specs::Measure::width_after, font::specs::Measure::looked_up))]
-fn span_width(call: &Call, f: FontEntry, widths: &[u16], e: Entry, spacing: u16) -> Looked
-    requires widths { FontWidths call.now f widths.now }
-    requires entry_in { EntryIn call.now e }
-    ensures { WidthFound (font_letters call.now f) spacing (chars_of call.now.msg.now e) result }
+fn span_width(call: &Call, font: &FontWidths<256>, e: Entry, spacing: u16) -> Looked
+    requires { EntryIn call.now e }
+    ensures { WidthFound (letters font.now.font) spacing (chars_of call.now.msg.now e) result }
 {
     match e.kind {
-        0 => part_width(call, f, widths, e, spacing),
-        1 => hex_width(call, f, widths, e.code, spacing),
+        0 => part_width(call, font, e, spacing),
+        1 => font.with_character(0, 0, u32::from(e.code), spacing),
         _ => Looked {
-            measure: Measure::Width(0),
+            measure: Ok(0),
             count: 0,
         },
     }
 }
 
 // 11 where the version ids differ.
-fn version_fault(version: OptNum, id: u16) -> Option<Fault>
+fn version_fault(version: Option<u16>, id: u16) -> Option<Fault>
     ensures { result ≡ version_fault version id }
 {
     match version {
-        OptNum::Some(v) if v != id => Some(Fault {
+        Some(v) if v != id => Some(Fault {
             number: 11,
             detail: 0,
         }),
@@ -76,56 +53,46 @@ fn version_fault(version: OptNum, id: u16) -> Option<Fault>
 }
 
 // 12 with its code where a character is missing.
-fn missing_fault(m: Measure) -> Option<Fault>
-    requires { CodeFits m }
-    ensures { result ≡ missing_fault m }
+fn missing_fault(measure: Result<u32, Missing>) -> Option<Fault>
+    requires { CodeFits measure }
+    ensures { result ≡ missing measure }
 {
-    match m {
-        Measure::Width(_) => None,
-        Measure::Missing(code) => Some(Fault {
+    match measure {
+        Ok(_) => None,
+        Err(missing) => Some(Fault {
             number: 12,
-            detail: code as u16,
+            detail: missing.code as u16,
         }),
-    }
-}
-
-fn width_of(m: Measure) -> u32
-    ensures { result ≡ width_of m }
-{
-    match m {
-        Measure::Width(w) => w,
-        Measure::Missing(_) => 0,
     }
 }
 
 // What the fonts say of a span in a font, and how many characters its measure looked up.
 #[tactic(auto, using(crate::proofs::Laws::fault_parts), unfolding(layout::specs::Fonts::measure_in, font::specs::Character::letters_at))]
-fn gauge_in(call: &Call, f: FontEntry, widths: &[u16], e: Entry) -> (Gauge, usize)
-    requires widths { FontWidths call.now f widths.now }
-    requires entry_in { EntryIn call.now e }
-    ensures { GaugedIn call.now e (some (font_at call.now.file.now f)) result }
+fn gauge_in(call: &Call, font: &FontWidths<256>, e: Entry) -> (Gauge, usize)
+    requires { EntryIn call.now e }
+    ensures { GaugedIn call.now e font.now result }
 {
     let st = e.state;
-    let spacing = layout::unwrap_or(st.char_spacing, u16::from(f.char_spacing));
-    let looked = span_width(call, f, widths, e, spacing);
-    let m = looked.measure;
+    let f = font.font.entry;
+    let spacing = st.char_spacing.unwrap_or(u16::from(f.char_spacing));
+    let looked = span_width(call, font, e, spacing);
     let gauge = Gauge {
         spacing,
         height: u16::from(f.height),
         font_spacing: u16::from(f.line_spacing),
-        width: width_of(m),
-        fault: version_fault(st.version, f.version_id).or(missing_fault(m)),
+        width: looked.measure.unwrap_or(0),
+        fault: version_fault(st.version, f.version_id).or(missing_fault(looked.measure)),
     };
     (gauge, looked.count)
 }
 
 // A span whose font is not defined.
 fn no_font(e: Entry) -> Gauge
-    ensures { result ≡ gauge_for [] e false none }
+    ensures { result ≡ gauge_for [] e false None }
 {
     let st = e.state;
     Gauge {
-        spacing: layout::unwrap_or(st.char_spacing, 0),
+        spacing: st.char_spacing.unwrap_or(0),
         height: 0,
         font_spacing: 0,
         width: 0,
@@ -136,35 +103,36 @@ fn no_font(e: Entry) -> Gauge
     }
 }
 
-// The widths of the font with a number, or zeros.
-pub fn widths_of(call: &Call, font: u8) -> [u16; 256]
-    ensures { WidthsOf call.now font result }
+// The font with a number and its widths, if the sign file has it.
+pub fn widths_of<'a>(call: &Call<'a>, number: u8) -> Option<FontWidths<'a, 256>>
+    ensures { WidthsOf call.now number result }
 {
-    let mut widths = [0; 256];
-    if let FontFound::Entry(f) = font::font_numbered(call.table, font) {
-        font::widths(call.file, f, call.table.config.capitals, &mut widths);
-    }
-    widths
+    let entry = font::font_numbered(call.table, number)?;
+    Some(FontWidths::new(FileFont {
+        file: call.file,
+        entry,
+        capitals: call.table.config.capitals,
+    }))
 }
 
-// The same of any span: widths has those of its font.
-fn gauge_of(call: &Call, widths: &[u16], e: Entry) -> (Gauge, usize)
+// The same of any span: font is its font.
+fn gauge_of(call: &Call, font: &Option<FontWidths<256>>, e: Entry) -> (Gauge, usize)
     requires entry_in { EntryIn call.now e }
-    requires widths_of { WidthsOf call.now e.state.font widths.now }
+    requires widths_of { WidthsOf call.now e.state.font font.now }
     ensures { GaugedBy call.now e result }
 {
-    match font::font_numbered(call.table, e.state.font) {
-        FontFound::Entry(f) => gauge_in(call, f, widths, e),
-        FontFound::Absent => (no_font(e), 0),
+    match font {
+        Some(font) => gauge_in(call, font, e),
+        None => (no_font(e), 0),
     }
 }
 
-// A span's row, and how many characters its measure looked up: it is measured once. widths has those of its font.
-pub fn row_of(call: &Call, widths: &[u16; 256], e: Entry) -> (Row, usize)
+// A span's row, and how many characters its measure looked up: it is measured once. font is its font.
+pub fn row_of(call: &Call, font: &Option<FontWidths<256>>, e: Entry) -> (Row, usize)
     requires entry_in { EntryIn call.now e }
-    requires widths_of { WidthsOf call.now e.state.font widths.now }
+    requires widths_of { WidthsOf call.now e.state.font font.now }
     ensures { RowTaken call.now e result }
 {
-    let (gauge, looked) = gauge_of(call, widths, e);
+    let (gauge, looked) = gauge_of(call, font, e);
     (rows::row_by(e, gauge), looked)
 }
