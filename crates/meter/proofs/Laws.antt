@@ -1,33 +1,34 @@
 -- A span in its font, by the code's ways.
 use Prim.Native.Nat.{ℕ, ◌+◌, ◌-◌}
 use mathlib.Core.Path.{◌≡◌, refl, sym, ◌∙◌, ap}
-use mathlib.Core.Bool.{Bool, false}
+use mathlib.Core.Bool.{Bool, true, false}
 use mathlib.Core.List.{List, [], ◌∷◌}
 use native.Mathlib.Omega.{arith}
+use lib.Dec.{eqb}
 use lib.ListN.{take, drop, length-take}
 use lib.Seq.{take_all}
-use Rattle.std.specs.Prelude.{Option, Some, None, option_map}
+use Rattle.std.specs.Prelude.{Option, Some, None}
 use Rattle.std.specs.Option.{option_or}
+use Rattle.base.specs.Pick.{pick}
 use Rattle.utf8.specs.Utf8.{codes}
 use Rattle.sign.specs.Sign.{Character, Font, sign_file}
 use Rattle.sign.specs.Given.{entry_of}
 use Rattle.sign.specs.Accepted.{GoodFont}
+use Rattle.sign.specs.declared.FontEntry.{FontEntry}
 use Rattle.sign.proofs.Answer.{Accepts, accepts}
 use Rattle.font.specs.Character.{character_in}
-use Rattle.font.specs.Table.{font_numbered, entry_numbered, entry_found}
+use Rattle.font.specs.Table.{font_numbered, entry_found}
 use Rattle.font.specs.declared.Found.{Found}
-use Rattle.font.specs.declared.FileFont.{FileFont}
 use Rattle.font.specs.declared.FontWidths.{FontWidths}
 use Rattle.font.specs.declared.Looked.{Looked}
-use Rattle.font.specs.Measure.{Measure, widened, with_width, width_after, text_width, measure_of}
 use Rattle.font.proofs.Tables.{table_holds, named_good}
 use Rattle.font.proofs.Laws.{entry_stands}
+use Rattle.font.specs.Measure.{Measure, widened, with_width, width_after, text_width, measure_of}
 use Rattle.layout.specs.declared.Entry.{Entry}
-use Rattle.layout.specs.declared.Fault.{Fault}
-use Rattle.layout.specs.Fonts.{version_fault, missing, chars_of, measure_in, char_fault_after, meter_of}
+use Rattle.layout.specs.Fonts.{version_fault as font_version, missing, fault, chars_of, measure_in, char_fault_after, meter_of}
 use Rattle.counts.specs.Placing.{fonts_in, capitals_in, looked_in}
 use Rattle.rows.specs.declared.Gauge.{Gauge}
-use Rattle.meter.specs.Gauges.{meter_in, file_font, FontHeld, CodesFit, CodeFits, WidthFound, EntryIn, part_codes, font_at, gauge_for, GaugedIn, GaugedBy}
+use Rattle.meter.specs.Gauges.{meter_in, numbered_in, FontIs, WidthsOf, CodesFit, CodeFits, WidthFound, EntryIn, part_codes, font_at, version_fault, gauge_for, GaugedIn, GaugedBy}
 use Rattle.meter.specs.declared.call.Call.{Call}
 
 -- ---- widths
@@ -62,82 +63,77 @@ part_text call chs spacing e r {i} {n} so k a b q =
 -- ---- a span in a font
 
 -- the fault of a version id that differs comes first
-pub fault_parts : (msg : List ℕ) (e : Entry) (capitals : Bool) (f : Font) (m : Measure) → m ≡ measure_in msg e capitals f
-    → option_or (version_fault e.state.version f) (missing m) ≡ char_fault_after msg e capitals (version_fault e.state.version f) f
-fault_parts msg e capitals f m q = go (version_fault e.state.version f)
+pub fault_parts : (msg : List ℕ) (e : Entry) (capitals : Bool) (f : Font) (v : Option ℕ) (m : Measure) → measure_in msg e capitals f ≡ m
+    → option_or (version_fault v f.version) (missing m) ≡ char_fault_after msg e capitals (font_version v f) f
+fault_parts msg e capitals f None m q = rw q
+fault_parts msg e capitals f (Some n) m q = go (eqb n f.version) m q
   where
-    go : (o : Option Fault) → option_or o (missing m) ≡ char_fault_after msg e capitals o f
-    go None = rw q
-    go (Some x) = refl
+    go : (t : Bool) (x : Measure) → measure_in msg e capitals f ≡ x
+        → option_or (pick t None (Some (fault 11 0))) (missing x) ≡ char_fault_after msg e capitals (pick t None (Some (fault 11 0))) f
+    go true x d = rw d
+    go false x d = refl
+
+gauge_none : (l : List ℕ) (e : Entry) (t : Bool) → gauge_for l e t None ≡ gauge_for [] e false None
+gauge_none l e t = refl
 
 -- ---- the font of a span
 
--- what the table gives
 module _ (call : Call) (n : ℕ) where
   opened : Accepts call.file.now call.table
   opened = accepts call.file.now call.table call.opened call.bytes
 
-  abbrev numbered : Option Font
-  numbered = font_numbered n opened.fs
-
   fonts : fonts_in (sign_file call.file.now) ≡ opened.fs
   fonts = ap fonts_in opened.is
 
-  found : option_map (file_font call) (entry_numbered n (take call.table.count call.table.fonts)) ≡ option_map (λ (f : Font). file_font call (entry_of f)) numbered
-  found = ap (option_map (file_font call)) (table_holds call.file.now call.table opened n) ∙ go numbered
-    where
-      go : (o : Option Font) → option_map (file_font call) (entry_found o) ≡ option_map (λ (f : Font). file_font call (entry_of f)) o
-      go None = refl
-      go (Some f) = refl
+  found : numbered_in call n ≡ entry_found (font_numbered n opened.fs)
+  found = table_holds call.file.now call.table opened n
 
-  back : (g : Font) → GoodFont call.file.now g → font_at (file_font call (entry_of g)) ≡ g
+  back : (g : Font) → GoodFont call.file.now g → font_at call.file.now (entry_of g) ≡ g
   back g k = rw (entry_stands call.file.now g k)
 
-  -- so is the font that is held
-  held_some : (w : FontWidths 256) → FontHeld call n (Some w) → (font_numbered n (fonts_in (sign_file call.file.now)) ≡ Some (font_at w.font)) × (w.font.capitals ≡ call.table.config.capitals)
-  held_some w h = rw fonts (go numbered refl (h ∙ found))
+  entry_font : (x : FontEntry) → numbered_in call n ≡ Some x → font_numbered n (fonts_in (sign_file call.file.now)) ≡ Some (font_at call.file.now x)
+  entry_font x p = rw fonts (go (font_numbered n opened.fs) refl (sym found ∙ p))
     where
-      go : (o : Option Font) → numbered ≡ o → Some w.font ≡ option_map (λ (f : Font). file_font call (entry_of f)) o
-          → (o ≡ Some (font_at w.font)) × (w.font.capitals ≡ call.table.config.capitals)
+      go : (u : Option Font) → font_numbered n opened.fs ≡ u → entry_found u ≡ Some x → u ≡ Some (font_at call.file.now x)
       go None q r = cc
       go (Some g) q r =
-          let y : w.font ≡ file_font call (entry_of g) = cc in
+          let y : entry_of g ≡ x = cc in
           let k : GoodFont call.file.now g = (named_good (GoodFont call.file.now) n g opened.fs opened.good.each q).1 in
-          (rw y (ap (λ (f : Font). Some f) (sym (back g k))), ap (λ (f : FileFont). f.capitals) y)
+          ap (λ (z : Font). Some z) (sym (back g k)) ∙ ap (λ (z : FontEntry). Some (font_at call.file.now z)) y
 
-  held_none : FontHeld call n None → font_numbered n (fonts_in (sign_file call.file.now)) ≡ None
-  held_none h = rw fonts (go numbered (h ∙ found))
+  entry_none : numbered_in call n ≡ None → font_numbered n (fonts_in (sign_file call.file.now)) ≡ None
+  entry_none p = rw fonts (go (font_numbered n opened.fs) refl (sym found ∙ p))
     where
-      go : (o : Option Font) → None ≡ option_map (λ (f : Font). file_font call (entry_of f)) o → o ≡ None
-      go None r = refl
-      go (Some g) r = cc
+      go : (u : Option Font) → font_numbered n opened.fs ≡ u → entry_found u ≡ None → u ≡ None
+      go None q r = refl
+      go (Some g) q r = cc
 
--- `gauge_of`
+-- the gauge of a span in the font that was found, or in none
 module _ (call : Call) (e : Entry) where
-  -- the gauge of a span in the font that was found, or in none
   gauge_found : (o : Option Font) (g : Gauge × ℕ) → font_numbered e.state.font (fonts_in (sign_file call.file.now)) ≡ o
-      → GaugedIn call call.table.config.capitals e o g → GaugedBy call e g
+      → g.0 ≡ gauge_for call.msg.now e call.table.config.capitals o → g.1 ≡ looked_in call.table.config.capitals (chars_of call.msg.now e) o
+      → GaugedBy call e g
   unfolding meter_in meter_of
-  gauge_found o g h q =
+  gauge_found o g h p q =
       let c : call.table.config.capitals ≡ capitals_in (sign_file call.file.now) = sym (ap capitals_in (opened call e.state.font).is) in
       record {
         is =
-            q.is ∙ ap (λ (t : Bool). gauge_for call.msg.now e t o) c
+            p ∙ ap (λ (t : Bool). gauge_for call.msg.now e t o) c
             ∙ ap (gauge_for call.msg.now e (capitals_in (sign_file call.file.now))) (sym h);
         looked =
-            q.looked ∙ ap (λ (t : Bool). looked_in t (chars_of call.msg.now e) o) c
+            q ∙ ap (λ (t : Bool). looked_in t (chars_of call.msg.now e) o) c
             ∙ ap (looked_in (capitals_in (sign_file call.file.now)) (chars_of call.msg.now e)) (sym h);
       }
 
-  pub gauge_some : {w : FontWidths 256} {o : Option (FontWidths 256)} {g : Gauge × ℕ} → FontHeld call e.state.font o → o ≡ Some w
-      → GaugedIn call w.font.capitals e (Some (font_at w.font)) g → GaugedBy call e g
-  gauge_some {w} {o} {g} h d q =
-      let k : FontHeld call e.state.font (Some w) = rw d at h in
-      let y : (font_numbered e.state.font (fonts_in (sign_file call.file.now)) ≡ Some (font_at w.font)) × (w.font.capitals ≡ call.table.config.capitals) = held_some call e.state.font w k in
-      gauge_found (Some (font_at w.font)) g y.0 (rw y.1 at q)
+  pub gauge_entry : {o : Option (FontWidths 256)} {w : FontWidths 256} {g : Gauge × ℕ} → WidthsOf call e.state.font o → o ≡ Some w → GaugedIn call e w g
+      → GaugedBy call e g
+  gauge_entry {o} {w} {g} h d q =
+      let k : FontIs call e.state.font w = rw d at h in
+      gauge_found (Some (font_at call.file.now w.font.entry)) g (entry_font call e.state.font w.font.entry k.entry) (rw (← k.file, ← k.capitals) q.is)
+      (rw (← k.file, ← k.capitals) q.looked)
 
-  pub gauge_none : {o : Option (FontWidths 256)} {g : Gauge} → FontHeld call e.state.font o → o ≡ None
-      → g ≡ gauge_for [] e false None → GaugedBy call e (g, 0)
-  gauge_none {o} {g} h d q =
-      let k : FontHeld call e.state.font None = rw d at h in
-      gauge_found None (g, 0) (held_none call e.state.font k) (record { is = q; looked = refl })
+  pub gauge_absent : {o : Option (FontWidths 256)} {g : Gauge} → WidthsOf call e.state.font o → o ≡ None → g ≡ gauge_for [] e false None
+      → GaugedBy call e (g, 0)
+  gauge_absent {o} h d q =
+      let k : numbered_in call e.state.font ≡ None = rw d at h in
+      gauge_found None _ (entry_none call e.state.font k) (q ∙ sym (gauge_none call.msg.now e call.table.config.capitals)) refl

@@ -1,10 +1,6 @@
 -- Rows tell what the fonts' meter says.
-use Prim.Native.Nat.{ℕ}
-use mathlib.Core.Path.{◌≡◌, refl}
-use mathlib.Core.Bool.{Bool, true, false}
-use mathlib.Core.List.{List}
-use lib.Dec.{eqb}
-use Rattle.std.specs.Prelude.{Option, Some, None, Ok, Err, unwrap_or}
+use Rattle.std.specs.Prelude.{ℕ, ◌≡◌, Bool, true, false, List, eqb, Option, Some, None, unwrap_or, Ok, Err}
+use mathlib.Core.Path.{refl}
 use Rattle.base.specs.Pick.{pick}
 use Rattle.sign.specs.Sign.{Font, sign_file}
 use Rattle.font.specs.Table.{font_numbered}
@@ -33,8 +29,8 @@ module _ (msg : List ℕ) (e : Entry) (capitals : Bool) where
       go true = missing_font (measure_in msg e capitals f)
       go false = refl
 
-  spacing_none : (cs : Option ℕ) (n d : ℕ) → cs ≡ Some n → unwrap_or cs d ≡ n
-  spacing_none cs n d p = rw p
+  spacing_none : (o : Option ℕ) (n d : ℕ) → o ≡ Some n → unwrap_or o d ≡ n
+  spacing_none o n d p = rw p
 
   right : (o : Option Font) → Right o
   right None = record { spaced = λ n p. spacing_none e.state.char_spacing n 0 p; font = refl }

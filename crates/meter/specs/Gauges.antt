@@ -1,17 +1,18 @@
 -- What the fonts of a sign file say of a span, as the code takes it.
-use Rattle.std.specs.Prelude.{ℕ, ◌+◌, ◌≤◌, ◌<◌, ◌≡◌, List, [], ◌∷◌, Bool, length, take, drop, Option, Ok, Err, option_map}
+use Rattle.std.specs.Prelude.{ℕ, ◌+◌, ◌≤◌, ◌<◌, ◌≡◌, List, [], ◌∷◌, Bool, eqb, length, take, drop, Option, Some, None, Ok, Err}
+use Rattle.base.specs.Pick.{pick}
 use Rattle.utf8.specs.Utf8.{codes}
 use Rattle.sign.specs.Sign.{Character, Font, sign_file}
 use Rattle.sign.specs.declared.FontEntry.{FontEntry}
-use Rattle.font.specs.Character.{own_letters}
+use Rattle.font.specs.Character.{characters_at}
 use Rattle.font.specs.Table.{font_numbered, entry_numbered}
 use Rattle.font.specs.Measure.{Measure, measure_of}
-use Rattle.font.specs.declared.FileFont.{FileFont}
 use Rattle.font.specs.declared.FontWidths.{FontWidths}
 use Rattle.font.specs.declared.Looked.{Looked}
 use Rattle.layout.specs.declared.Entry.{Entry}
+use Rattle.layout.specs.declared.Fault.{Fault}
 use Rattle.layout.specs.Types.{Meter}
-use Rattle.layout.specs.Fonts.{chars_of, fault_in, spacing_in, width_in, height_in, line_spacing_in, meter_of}
+use Rattle.layout.specs.Fonts.{fault, chars_of, fault_in, spacing_in, width_in, height_in, line_spacing_in, meter_of}
 use Rattle.counts.specs.Placing.{fonts_in, capitals_in, looked_in}
 use Rattle.rows.specs.Measured.{gauge_of, row_of}
 use Rattle.rows.specs.declared.Gauge.{Gauge}
@@ -21,13 +22,20 @@ use Rattle.meter.specs.declared.call.Call.{Call}
 unfoldable pub meter_in : List ℕ → List ℕ → Meter
 meter_in file msg = meter_of msg (capitals_in (sign_file file)) (fonts_in (sign_file file))
 
--- an entry of the call's table, as a font of its file
-abbrev pub file_font : Call → FontEntry → FileFont
-file_font call f = record { file = call.file; entry = f; capitals = call.table.config.capitals }
+-- the font with a number, as the call's table has it
+abbrev pub numbered_in : Call → ℕ → Option FontEntry
+numbered_in call n = entry_numbered n (take call.table.count call.table.fonts)
 
--- the font with a number is held, if the table has one
-abbrev pub FontHeld : Call → ℕ → Option (FontWidths 256) → Type 0
-FontHeld call n o = option_map (λ (w : FontWidths 256). w.font) o ≡ option_map (file_font call) (entry_numbered n (take call.table.count call.table.fonts))
+-- the font w is the one with a number
+pub record FontIs (call : Call) (n : ℕ) (w : FontWidths 256) : Type 0 where
+  pub entry : numbered_in call n ≡ Some w.font.entry
+  pub file : w.font.file.now ≡ call.file.now
+  pub capitals : w.font.capitals ≡ call.table.config.capitals
+
+-- so is a font that may be none
+abbrev pub WidthsOf : Call → ℕ → Option (FontWidths 256) → Type 0
+WidthsOf call n None = numbered_in call n ≡ None
+WidthsOf call n (Some w) = FontIs call n w
 
 -- code points that fit in 16 bits, as a refusal's detail has
 abbrev pub CodesFit : List ℕ → Type 0
@@ -53,18 +61,23 @@ pub record EntryIn (call : Call) (e : Entry) : Type 0 where
   pub inside : e.start + e.len ≤ length call.msg.now
   pub codes_fit : e.kind ≡ 0 → CodesFit (part_codes call.msg.now e)
 
--- a font of a file, read
-abbrev pub font_at : FileFont → Font
-font_at f =
+-- the font of an entry of the table
+abbrev pub font_at : List ℕ → FontEntry → Font
+font_at file f =
     record {
-      number = f.entry.number;
-      height = f.entry.height;
-      char_spacing = f.entry.char_spacing;
-      line_spacing = f.entry.line_spacing;
-      version = f.entry.version_id;
-      first = f.entry.first;
-      characters = own_letters f;
+      number = f.number;
+      height = f.height;
+      char_spacing = f.char_spacing;
+      line_spacing = f.line_spacing;
+      version = f.version_id;
+      first = f.first;
+      characters = characters_at file f;
     }
+
+-- 11 where the version ids differ
+abbrev pub version_fault : Option ℕ → ℕ → Option Fault
+version_fault None id = None
+version_fault (Some v) id = pick (eqb v id) None (Some (fault 11 0))
 
 -- what is said of a span in its font, if that is defined
 abbrev pub gauge_for : List ℕ → Entry → Bool → Option Font → Gauge
@@ -77,10 +90,10 @@ gauge_for msg e capitals o =
       fault = fault_in msg e capitals o;
     }
 
--- the same, and how many characters its measure looked up
-pub record GaugedIn (call : Call) (capitals : Bool) (e : Entry) (o : Option Font) (r : Gauge × ℕ) : Type 0 where
-  pub is : r.0 ≡ gauge_for call.msg.now e capitals o
-  pub looked : r.1 ≡ looked_in capitals (chars_of call.msg.now e) o
+-- the same in the font w, and how many characters its measure looked up
+pub record GaugedIn (call : Call) (e : Entry) (w : FontWidths 256) (r : Gauge × ℕ) : Type 0 where
+  pub is : r.0 ≡ gauge_for call.msg.now e w.font.capitals (Some (font_at w.font.file.now w.font.entry))
+  pub looked : r.1 ≡ looked_in w.font.capitals (chars_of call.msg.now e) (Some (font_at w.font.file.now w.font.entry))
 
 -- how many characters the measure of a span looks up, in the fonts of a sign file
 abbrev pub looked_by : List ℕ → List ℕ → Entry → ℕ

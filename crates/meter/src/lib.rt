@@ -1,10 +1,10 @@
 // What the fonts of a sign file say of a span: taken once for each, and kept with it in its row.
 #![tactic(auto)]
 
-ghost use Rattle.std.specs.Prelude.{◌≡◌, ◌∷◌, [], false, Some, None};
+ghost use Rattle.std.specs.Prelude.{◌≡◌, ◌∷◌, [], false, None};
 ghost use Rattle.font.specs.Character.{letters};
-ghost use Rattle.layout.specs.Fonts.{chars_of, version_fault, missing};
-ghost use Rattle.meter.specs.Gauges.{FontHeld, part_codes, EntryIn, CodeFits, WidthFound, font_at, gauge_for, GaugedIn, GaugedBy, RowTaken};
+ghost use Rattle.layout.specs.Fonts.{chars_of, missing};
+ghost use Rattle.meter.specs.Gauges.{WidthsOf, part_codes, EntryIn, CodeFits, WidthFound, version_fault, gauge_for, GaugedIn, GaugedBy, RowTaken};
 
 mod call;
 
@@ -12,14 +12,6 @@ pub use call::Call;
 use font::{FileFont, FontWidths, Looked, Missing};
 use layout::{Entry, Fault};
 use rows::{Gauge, Row};
-
-// The width of a character alone.
-#[tactic(auto, unfolding(font::specs::Measure::text_width, font::specs::Measure::width_after, font::specs::Measure::looked_up))]
-fn hex_width(font: &FontWidths<256>, code: u16, spacing: u16) -> Looked
-    ensures { WidthFound (letters font.now.font) spacing (code ∷ []) result }
-{
-    font.with_character(0, 0, u32::from(code), spacing)
-}
 
 // The width of a text of the message.
 fn part_width(call: &Call, font: &FontWidths<256>, e: Entry, spacing: u16) -> Looked
@@ -39,7 +31,7 @@ fn span_width(call: &Call, font: &FontWidths<256>, e: Entry, spacing: u16) -> Lo
 {
     match e.kind {
         0 => part_width(call, font, e, spacing),
-        1 => hex_width(font, e.code, spacing),
+        1 => font.with_character(0, 0, u32::from(e.code), spacing),
         _ => Looked {
             measure: Ok(0),
             count: 0,
@@ -48,11 +40,11 @@ fn span_width(call: &Call, font: &FontWidths<256>, e: Entry, spacing: u16) -> Lo
 }
 
 // 11 where the version ids differ.
-fn version_fault(version: Option<u16>, font: FileFont) -> Option<Fault>
-    ensures { result ≡ version_fault version (font_at font.entry) }
+fn version_fault(version: Option<u16>, id: u16) -> Option<Fault>
+    ensures { result ≡ version_fault version id }
 {
     match version {
-        Some(v) if v != font.entry.version_id => Some(Fault {
+        Some(v) if v != id => Some(Fault {
             number: 11,
             detail: 0,
         }),
@@ -61,33 +53,35 @@ fn version_fault(version: Option<u16>, font: FileFont) -> Option<Fault>
 }
 
 // 12 with its code where a character is missing.
-fn missing_fault(m: Result<u32, Missing>) -> Option<Fault>
-    requires { CodeFits m }
-    ensures { result ≡ missing m }
+fn missing_fault(measure: Result<u32, Missing>) -> Option<Fault>
+    requires { CodeFits measure }
+    ensures { result ≡ missing measure }
 {
-    m.err().map(|missing| Fault {
-        number: 12,
-        detail: missing.code as u16,
-    })
+    match measure {
+        Ok(_) => None,
+        Err(missing) => Some(Fault {
+            number: 12,
+            detail: missing.code as u16,
+        }),
+    }
 }
 
-// What a font says of a span, and how many characters its measure looked up.
+// What the fonts say of a span in a font, and how many characters its measure looked up.
 #[tactic(auto, using(crate::proofs::Laws::fault_parts), unfolding(layout::specs::Fonts::measure_in, font::specs::Character::letters_at))]
 fn gauge_in(call: &Call, font: &FontWidths<256>, e: Entry) -> (Gauge, usize)
     requires { EntryIn call.now e }
-    ensures { GaugedIn call.now font.now.font.capitals e (Some (font_at font.now.font)) result }
+    ensures { GaugedIn call.now e font.now result }
 {
-    let f = font.font.entry;
     let st = e.state;
+    let f = font.font.entry;
     let spacing = st.char_spacing.unwrap_or(u16::from(f.char_spacing));
     let looked = span_width(call, font, e, spacing);
-    let m = looked.measure;
     let gauge = Gauge {
         spacing,
         height: u16::from(f.height),
         font_spacing: u16::from(f.line_spacing),
-        width: m.unwrap_or(0),
-        fault: version_fault(st.version, font.font).or(missing_fault(m)),
+        width: looked.measure.unwrap_or(0),
+        fault: version_fault(st.version, f.version_id).or(missing_fault(looked.measure)),
     };
     (gauge, looked.count)
 }
@@ -109,9 +103,9 @@ fn no_font(e: Entry) -> Gauge
     }
 }
 
-// The font with a number, if the sign file has one.
-pub fn font_of<'a>(call: &Call<'a>, number: u8) -> Option<FontWidths<'a, 256>>
-    ensures { FontHeld call.now number result }
+// The font with a number and its widths, if the sign file has it.
+pub fn widths_of<'a>(call: &Call<'a>, number: u8) -> Option<FontWidths<'a, 256>>
+    ensures { WidthsOf call.now number result }
 {
     let entry = font::font_numbered(call.table, number)?;
     Some(FontWidths::new(FileFont {
@@ -121,22 +115,22 @@ pub fn font_of<'a>(call: &Call<'a>, number: u8) -> Option<FontWidths<'a, 256>>
     }))
 }
 
-// What the fonts say of a span, by its own font, and how many characters its measure looked up.
+// The same of any span: font is its font.
 fn gauge_of(call: &Call, font: &Option<FontWidths<256>>, e: Entry) -> (Gauge, usize)
     requires entry_in { EntryIn call.now e }
-    requires held { FontHeld call.now e.state.font font.now }
+    requires widths_of { WidthsOf call.now e.state.font font.now }
     ensures { GaugedBy call.now e result }
 {
     match font {
-        Some(f) => gauge_in(call, f, e),
+        Some(font) => gauge_in(call, font, e),
         None => (no_font(e), 0),
     }
 }
 
-// A span's row, and how many characters its measure looked up: it is measured once, in its own font.
+// A span's row, and how many characters its measure looked up: it is measured once. font is its font.
 pub fn row_of(call: &Call, font: &Option<FontWidths<256>>, e: Entry) -> (Row, usize)
     requires entry_in { EntryIn call.now e }
-    requires held { FontHeld call.now e.state.font font.now }
+    requires widths_of { WidthsOf call.now e.state.font font.now }
     ensures { RowTaken call.now e result }
 {
     let (gauge, looked) = gauge_of(call, font, e);

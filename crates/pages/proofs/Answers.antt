@@ -3,7 +3,7 @@ use Prim.Native.Nat.{ℕ, zero, suc, ◌+◌, ◌*◌, ◌≤◌}
 use mathlib.Core.Path.{◌≡◌, refl, sym, ◌∙◌, ap, subst}
 use mathlib.Core.Bool.{Bool, true, false}
 use mathlib.Core.List.{List, [], ◌∷◌}
-use Rattle.std.specs.Prelude.{Result, Ok, Err, IfOk}
+use Rattle.std.specs.Prelude.{Result, Ok, Err, IfOk, Option, Some, None}
 use native.Mathlib.Omega.{arith}
 use borrow.Author.Tests.{lt-ltb}
 use lib.Dec.{ltb}
@@ -12,14 +12,12 @@ use Rattle.base.specs.Pick.{pick}
 use Rattle.refusal.specs.declared.Refusal.{Refusal}
 use Rattle.layout.specs.declared.RenderState.{RenderState}
 use Rattle.layout.specs.Types.{Item, items, Board}
-use Rattle.layout.specs.Read.{Scan, scan, stop_if, read, opening, events}
+use Rattle.layout.specs.Read.{scan, stop_if, read, opening, events}
 use Rattle.layout.specs.Listing.{Page, on, refused as refused_page, offs, walk, pages}
-use Rattle.refusal.specs.declared.OptRefusal.{OptRefusal}
-use Rattle.refusal.specs.declared.OptRefusal.TheVariants.{Some, None}
-use Rattle.page.specs.declared.PageScan.{PageScan}
+use Rattle.layout.specs.declared.Scan.{Scan}
 use Rattle.page.specs.declared.PageState.{PageState}
 use Rattle.page.specs.State.{new_page as new_state, done_after}
-use Rattle.page.specs.Scan.{fault_is, told as scan_told, items_from}
+use Rattle.page.specs.Scan.{items_from}
 use Rattle.rows.specs.Rows.{spans_of}
 use Rattle.layout.specs.declared.Span.{Span}
 use Rattle.rows.specs.declared.Row.{Row}
@@ -32,33 +30,27 @@ use Rattle.pages.proofs.Laws.{whole_inside}
 
 -- ---- an on page
 
-pub fault_none : (o : OptRefusal) → ((x : Refusal) → o ≡ Some x → ⊥) → o ≡ None
+pub fault_none : (o : Option Refusal) → ((x : Refusal) → o ≡ Some x → ⊥) → o ≡ None
 fault_none None h = refl
 fault_none (Some x) h = absurd (h x refl)
 
 -- q is the answer of the scan
-module _ (s : Board) (msg : List ℕ) (its : List Item) (a b : ℕ) (st : RenderState) (q : PageScan) (e : scan_told q ≡ scan s.config a b its) where
-  -- layout's answers, by a scan
-  by_scan : (c : Scan) → List Page
-  by_scan c = walk s (stop_if c.fault (read s.config its c.on c.off st true [])) c.on c.off [] 0
+module _ (s : Board) (its : List Item) (a b : ℕ) (st : RenderState) {q : Scan} (e : q ≡ scan s.config a b its) where
+  -- layout's answers, by a scan and its fault
+  by_fault : Scan → Option Refusal → List Page
+  by_fault c o = walk s (stop_if o (read s.config its c.on c.off st true [])) c.on c.off [] 0
 
-  scanned : turned s its a b st ≡ by_scan (scan_told q)
-  unfolding turned by_scan
-  scanned = ap by_scan (sym e)
+  scanned : turned s its a b st ≡ by_fault q q.fault
+  unfolding turned by_fault
+  scanned = ap (λ (c : Scan). by_fault c c.fault) (sym e)
 
-  stop_told : (o : OptRefusal) (x : Refusal) → o ≡ Some x → by_scan (record { on = q.on; off = q.off; fault = fault_is o }) ≡ refused_page x ∷ []
-  unfolding by_scan
-  stop_told o x h = rw h
+  on_refused : {x : Refusal} → q.fault ≡ Some x → turned s its a b st ≡ refused_page x ∷ []
+  unfolding by_fault
+  on_refused h = scanned ∙ ap (by_fault q) h
 
-  run_told : (o : OptRefusal) → o ≡ None → by_scan (record { on = q.on; off = q.off; fault = fault_is o }) ≡ run s its q.on q.off st [] 0
-  unfolding by_scan run
-  run_told o h = rw h
-
-  pub on_refused : (x : Refusal) → q.fault ≡ Some x → turned s its a b st ≡ refused_page x ∷ []
-  on_refused x h = scanned ∙ stop_told q.fault x h
-
-  pub on_run : q.fault ≡ None → turned s its a b st ≡ run s its q.on q.off st [] 0
-  on_run h = scanned ∙ run_told q.fault h
+  on_run : q.fault ≡ None → turned s its a b st ≡ run s its q.on q.off st [] 0
+  unfolding by_fault run
+  on_run h = scanned ∙ ap (by_fault q) h
 
 -- what follows a page
 new_todo : (s : Board) (msg : List ℕ) (at : ℕ) (st : RenderState) (a b : ℕ)
@@ -88,7 +80,7 @@ after_weight true b = new_weight (ltb 0 b)
 after_weight false b = done_weight (ltb 0 b)
 
 module _ {call : Call} {p : Pages} {rows : List Row} {out : List Span} (asked : NextAsked call p rows out)
-    (q : PageScan) (e : scan_told q ≡ scan call.table.config p.on p.off (items_in call p.at)) where
+    {q : Scan} (e : q ≡ scan call.table.config p.on p.off (items_in call p.at)) where
   abbrev s : Board
   s = board_of call
 
@@ -96,13 +88,13 @@ module _ {call : Call} {p : Pages} {rows : List Row} {out : List Span} (asked : 
   its = items_in call p.at
 
   pub on_stop : {x : Refusal} → q.fault ≡ Some x → OnRead call p rows out p rows out (Err x)
-  on_stop {x} h = record { ends = on_refused s call.msg.now its p.on p.off p.render_state q e x h; next = tt; rowed = refl; room = refl }
+  on_stop h = record { ends = on_refused s its p.on p.off p.render_state e h; next = tt; rowed = refl; room = refl }
 
   -- a page ended so
   module _ {rows' : List Row} {out' : List Span} {v : Result PageDone Refusal} (h : q.fault ≡ None)
       (t : PageRendered call p.at p.render_state rows out rows' out' v) where
     tells : {u : Result PageDone Refusal} → v ≡ u → turned s its p.on p.off p.render_state ≡ page_told s call.msg.now q.on q.off out' u
-    tells g = on_run s call.msg.now its p.on p.off p.render_state q e h ∙ t.ends q.on q.off ∙ ap (page_told s call.msg.now q.on q.off out') g
+    tells g = on_run s its p.on p.off p.render_state e h ∙ t.ends q.on q.off ∙ ap (page_told s call.msg.now q.on q.off out') g
 
     pub on_refuse : {x : Refusal} → v ≡ Err x → OnRead call p rows out p rows' out' (Err x)
     on_refuse g = record { ends = tells g; next = tt; rowed = t.rowed; room = t.room }

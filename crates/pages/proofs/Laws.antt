@@ -2,8 +2,7 @@
 use Prim.Native.Nat.{ℕ, suc, ◌+◌, ◌≤◌, ◌<◌}
 use mathlib.Core.Path.{◌≡◌, refl, sym, ◌∙◌, ap, subst}
 use mathlib.Core.Bool.{Bool, true, false}
-use mathlib.Core.Option.{Option, none, some}
-use Rattle.std.specs.Prelude.{Result, Ok, Err, IfOk}
+use Rattle.std.specs.Prelude.{Option, Some, None, Result, Ok, Err, IfOk}
 use mathlib.Core.List.{List, [], ◌∷◌, ◌++◌}
 use native.Mathlib.Omega.{arith}
 use native.Mathlib.Numerals.{add-one}
@@ -53,8 +52,8 @@ module _ (s : Board) (a b n : ℕ) (rs : List Span) (es : List Entry) where
   by_fault : (o : Option Refusal) (l : List Page) (e : Ending) → run_by s a b n rs es e ≡ stop_at (full n) l
       → stop_at (or_else o (full n)) l ≡ run_by s a b n rs es (stop_by o e)
   unfolding or_else
-  by_fault none l e q = sym q
-  by_fault (some r) l e q = refl
+  by_fault None l e q = sym q
+  by_fault (Some r) l e q = refl
 
   by_how : (l : List Span) (h : How) (st : RenderState) (its : List Item)
       → walk s (events_after s.config a b h st its) a b l (suc n) ≡ onward s a b n l h st its
@@ -166,7 +165,7 @@ module _ {call : Call} {from : ℕ} {first : RenderState} {rows₀ : List Row} {
       placed : SpansPlaced call p out out' d
       placed = subst (λ (r : Result PassDone Refusal). IfOk r (SpansPlaced call p out out')) q g.done
 
-      not_full : full k ≡ none
+      not_full : full k ≡ None
       unfolding unless
       not_full = rw (lt-ltb k 50 few)
 
@@ -228,7 +227,7 @@ module _ {call : Call} {from : ℕ} {first : RenderState} {rows₀ : List Row} {
     page_end q e h w = finish q e h (λ a b. sym (here q e h a b)) (omega arith) w
 
     -- the 51st
-    is_full : 50 ≤ k → full k ≡ some (refusal 15 0 0 0)
+    is_full : 50 ≤ k → full k ≡ Some (refusal 15 0 0 0)
     unfolding unless
     is_full h = rw (le-ltb k 50 h)
 

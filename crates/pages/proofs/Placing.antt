@@ -2,8 +2,7 @@
 use Prim.Native.Nat.{ℕ, ◌+◌}
 use mathlib.Core.Path.{◌≡◌, sym, ◌∙◌, ap, subst}
 use mathlib.Core.Bool.{true}
-use mathlib.Core.Option.{Option}
-use Rattle.std.specs.Prelude.{Result, Ok, Err, IfOk}
+use Rattle.std.specs.Prelude.{Option, Result, Ok, Err, IfOk}
 use mathlib.Core.List.{List, ◌++◌}
 use native.Mathlib.Omega.{arith}
 use Rattle.refusal.specs.declared.Refusal.{Refusal}
@@ -11,7 +10,8 @@ use Rattle.records.specs.declared.Config.{Config}
 use Rattle.sign.specs.Sign.{Sign, sign_file}
 use Rattle.font.specs.Table.{font_numbered}
 use Rattle.counts.specs.Placing.{chars_in, fonts_in, capitals_in, looked_in, chars_looked}
-use Rattle.counts.proofs.Laws.{sum_append, looked_pass}
+use Rattle.counts.proofs.Laws.{looked_pass}
+use Rattle.std.proofs.lemmas.List.Sums.{sum_by-append}
 use Rattle.sign.proofs.Answer.{Accepts, accepts}
 use Rattle.layout.specs.declared.Entry.{Entry}
 use Rattle.layout.specs.declared.Span.{Span}
@@ -92,7 +92,7 @@ module _ {call : Call} {p : Reached} {rows₀ : List Row} {out : List Span} {row
 
     pub render_asks : Placeable d.rect (rows_of rows n) (take (from + n - from) (drop from out))
     render_asks =
-        let a : Accepts call.file.now call.table = accepts call.file.now call.table call.opened.0 call.bytes call.opened.1 in
+        let a : Accepts call.file.now call.table = accepts call.file.now call.table call.opened call.bytes in
         asks_part rows n out from render_few render_rows render_room (omega (arith, spans.inside.across, a.good.config.width_most))
         (omega (arith, spans.inside.down, a.good.config.height_most))
 
@@ -133,7 +133,7 @@ module _ {call : Call} {p : Reached} {rows₀ : List Row} {out : List Span} {row
             asked.looked,
             spans.looked,
             looked_pass sign call.msg.now s d.rect es,
-            sum_append (λ q. looked_in (capitals_in sign) (chars_in call.msg.now q) (font_numbered q.font (fonts_in sign))) (spans_of out from)
+            sum_by-append (λ q. looked_in (capitals_in sign) (chars_in call.msg.now q) (font_numbered q.font (fonts_in sign))) (spans_of out from)
                 (pass_records s d.rect es),
           )
           ∙ ap (chars_looked sign call.msg.now) (sym (written e))

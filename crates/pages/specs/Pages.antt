@@ -2,7 +2,6 @@
 -- layout's `pages` is what is to come before the first answer.
 use Rattle.std.specs.Prelude.{ℕ, ◌+◌, ◌*◌, ◌≤◌, ◌≡◌, Bool, true, false, List, [], ◌∷◌, ◌++◌, ltb, length, IfSome, IfOk, Some, None, Result, Ok, Err}
 use Rattle.std.specs.Prelude.{Option}
-use Rattle.std.proofs.Math.Option.{Option as MathOption, none, some}
 use Rattle.base.specs.Pick.{pick}
 use Rattle.refusal.specs.declared.Refusal.{Refusal}
 use Rattle.records.specs.declared.Config.{Config}
@@ -11,7 +10,8 @@ use Rattle.layout.specs.declared.RenderState.{RenderState}
 use Rattle.layout.specs.declared.Entry.{Entry}
 use Rattle.layout.specs.declared.Span.{Span}
 use Rattle.layout.specs.Types.{Item, Board}
-use Rattle.layout.specs.Read.{Scan, scan, stop_if, start, new_page, read}
+use Rattle.layout.specs.declared.Scan.{Scan}
+use Rattle.layout.specs.Read.{scan, stop_if, start, new_page, read}
 use Rattle.layout.specs.Placing.{pass_fault, pass_records}
 use Rattle.layout.specs.Listing.{Page, on, off, refused as refused_page, offs, walk}
 use Rattle.page.specs.declared.PageState.{PageState}
@@ -57,9 +57,9 @@ pub record RenderAsked (call : Call) (rows : List Row) (out : List Span) (p : Re
 
 -- ---- a pass that is placed
 
-abbrev pub stop_by : MathOption Refusal → Ending → Ending
-stop_by none e = e
-stop_by (some r) e = refused r
+abbrev pub stop_by : Option Refusal → Ending → Ending
+stop_by None e = e
+stop_by (Some r) e = refused r
 
 abbrev pub placed_ending : Board → List Entry → Ending → Ending
 placed_ending s es (refused r) = refused r

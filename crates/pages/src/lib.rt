@@ -11,7 +11,7 @@ use meter::Call;
 use page::PageState;
 use pass::{How, PassDone, Reached};
 use records::Config;
-use refusal::{OptRefusal, Refusal};
+use refusal::Refusal;
 use rows::Row;
 
 // As many passes as a page can have.
@@ -156,7 +156,7 @@ impl Pages {
         ensures { OnRead call.now self.old rows.old out.old self.new rows.new out.new result }
     {
         let s = page::scan(call.msg, self.at, call.table.config, self.on, self.off);
-        if let OptRefusal::Some(r) = s.fault {
+        if let Some(r) = s.fault {
             return Err(r);
         }
         let d = render_page(call, self.at, self.render_state, rows, out)?;

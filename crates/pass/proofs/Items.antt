@@ -15,13 +15,14 @@ use Rattle.utf8.specs.Utf8.{codes, codes_from, code_of, all_latin1}
 use Rattle.token.specs.declared.Shape.{Shape}
 use Rattle.token.specs.declared.Shape.TheVariants.{Bracket, Tag, Stray, Text as TextShape}
 use Rattle.token.specs.Token.{is_pair, last_byte, shape_of}
-use Rattle.tag.specs.declared.Parsed.{Parsed}
-use Rattle.reading.specs.declared.Said.{Said}
-use Rattle.reading.specs.Reading.{parsed_item, tag_item, text_item, shape_item, item_of}
+use Rattle.std.specs.Prelude.{Result, Ok, Err}
+use Rattle.value.specs.declared.SyntaxError.{SyntaxError}
+use Rattle.value.specs.declared.Value.{Value}
+use Rattle.reading.specs.Reading.{tag_item, text_item, shape_item, item_of}
 use Rattle.layout.specs.declared.Entry.{Entry}
 use Rattle.layout.specs.Demand.{Role, text, hexadecimal, rectangle, page_just, new_page as page_role, other, role_of, role_in}
 use Rattle.layout.proofs.Cover.{Spoken}
-use Rattle.layout.proofs.Tags.{NoText, TagLike, good, unsupported, bad, tag_value_law}
+use Rattle.layout.proofs.Tags.{NoText, NoTextIn, tag_value_law}
 use Rattle.meter.specs.Gauges.{CodesFit}
 
 -- ---- a text is narrow
@@ -53,12 +54,11 @@ no_text s (page_just j) h = tt
 no_text s page_role h = tt
 no_text s other h = tt
 
-parsed_clear : (s : List ℕ) {p : Parsed} → TagLike p → Clear s (role_in (parsed_item p))
-parsed_clear s (good {v = v} h) = no_text s (role_of v) h
-parsed_clear s unsupported = tt
-parsed_clear s bad = tt
+value_clear : (s : List ℕ) (x : Result Value SyntaxError) → NoTextIn x → Clear s (role_in x)
+value_clear s (Ok v) h = no_text s (role_of v) h
+value_clear s (Err e) h = tt
 
-pick_clear : (s : List ℕ) (t : Bool) (x y : Said) → (t ≡ true → Clear s (role_in x)) → (t ≡ false → Clear s (role_in y)) → Clear s (role_in (pick t x y))
+pick_clear : (s : List ℕ) (t : Bool) (x y : Result Value SyntaxError) → (t ≡ true → Clear s (role_in x)) → (t ≡ false → Clear s (role_in y)) → Clear s (role_in (pick t x y))
 pick_clear s true x y f g = f refl
 pick_clear s false x y f g = g refl
 
@@ -98,7 +98,7 @@ bracket_narrow s e = go (is_pair 91 s) (is_pair 93 s) refl refl (eqb (get_or s 0
 module _ (long : Bool) (a : ℕ) (s : List ℕ) where
   tag_clear : Clear s (role_in (tag_item long a s))
   unfolding tag_item
-  tag_clear = pick_clear s (leb 2 (length s)) _ _ (λ _. parsed_clear s (tag_value_law _ _ _)) (λ _. tt)
+  tag_clear = pick_clear s (leb 2 (length s)) _ _ (λ _. value_clear s _ (tag_value_law _ _ _)) (λ _. tt)
 
   text_clear : Clear s (role_in (text_item a s))
   unfolding text_item

@@ -1,5 +1,6 @@
 -- The ways on and out of a pass.
-use Rattle.std.specs.Prelude.{Option, Some, None, IfSome, Result, Ok, Err, not}
+use Rattle.std.proofs.lemmas.List.Sums.{sum_by-cons}
+use Rattle.std.specs.Prelude.{sum_by, Option, Some, None, IfSome, Result, Ok, Err, not}
 use Rattle.std.specs.Option.{option_eq}
 use Rattle.std.proofs.lemmas.Bool.{eqb-true, not-false}
 use Prim.Native.Nat.{ℕ, ◌+◌, ◌-◌, ◌%◌, ◌≤◌, ◌<◌}
@@ -22,10 +23,10 @@ use Rattle.layout.specs.declared.Rect.{Rect}
 use Rattle.layout.specs.declared.RenderState.{RenderState}
 use Rattle.layout.specs.declared.Entry.{Entry}
 use Rattle.layout.specs.declared.Step.{Step}
-use Rattle.layout.specs.declared.Step.TheVariants.{Refuse, Go, Emit, Cut, Turn}
+use Rattle.layout.specs.declared.Step.TheVariants.{Go, Emit, Cut, Turn}
 use Rattle.layout.specs.Types.{Item, item_at}
 use Rattle.layout.specs.Read.{unit, rect_fits, fits, step}
-use Rattle.layout.proofs.PassLaws.{and_true}
+use Rattle.std.proofs.lemmas.Bool.{and_parts}
 use Rattle.layout.proofs.Cover.{StepWithin, step_within}
 use Rattle.layout.proofs.Items.{item_within}
 use Rattle.page.specs.Scan.{items_from}
@@ -33,9 +34,8 @@ use Rattle.rows.specs.declared.Row.{Row}
 use Rattle.rows.specs.Rows.{rows_of}
 use Rattle.rows.proofs.Laws.{rows_put}
 use Rattle.sign.specs.Sign.{sign_file}
-use Rattle.sign.proofs.Answer.{Accepts, accepts}
 use Rattle.font.specs.Table.{font_numbered}
-use Rattle.counts.specs.Placing.{sum_of, fonts_in, capitals_in}
+use Rattle.counts.specs.Placing.{fonts_in, capitals_in}
 use Rattle.counts.proofs.Laws.{looked_few}
 use Rattle.meter.specs.declared.call.Call.{Call}
 use Rattle.meter.specs.Gauges.{WidthsOf, CodesFit, EntryIn}
@@ -51,12 +51,12 @@ use Rattle.pass.proofs.Items.{spoken_narrow}
 
 fits_most : (a n all u : ℕ) → fits a n all u ≡ true → a + n ≤ all
 fits_most a n all u e =
-    let (_, p) = and_true (ltb 0 n) (leb (a + n) all && (eqb (a % unit u) 0 && eqb (n % unit u) 0)) e in
-    leb-true (a + n) all (and_true (leb (a + n) all) (eqb (a % unit u) 0 && eqb (n % unit u) 0) p).0
+    let (_, p) = and_parts (ltb 0 n) (leb (a + n) all && (eqb (a % unit u) 0 && eqb (n % unit u) 0)) e in
+    leb-true (a + n) all (and_parts (leb (a + n) all) (eqb (a % unit u) 0 && eqb (n % unit u) 0) p).0
 
 fits_inside : (c : Config) (r : Rect) → rect_fits c r ≡ true → Inside c r
 fits_inside c r e =
-    let (a, d) = and_true (fits r.left r.width c.width c.char_width) (fits r.top r.height c.height c.char_height) e in
+    let (a, d) = and_parts (fits r.left r.width c.width c.char_width) (fits r.top r.height c.height c.char_height) e in
     record { across = fits_most r.left r.width c.width c.char_width a; down = fits_most r.top r.height c.height c.char_height d }
 
 -- ---- the loop
@@ -80,8 +80,8 @@ pub record Stands (call : Call) (from : ℕ) (first : RenderState) (rows₀ rows
       rows_of rows p.count ++ map (row_in call) (entries_from call p.at p.state blank)
       ≡ map (row_in call) (entries_from call from first true)
   pub sum :
-      p.looked + sum_of (looked_in call) (entries_from call p.at p.state blank)
-      ≡ sum_of (looked_in call) (entries_from call from first true)
+      p.looked + sum_by (looked_in call) (entries_from call p.at p.state blank)
+      ≡ sum_by (looked_in call) (entries_from call from first true)
   pub holds : Holds call held
 
 module _ {call : Call} {from : ℕ} {first : RenderState} {rows₀ rows : List Row}
@@ -108,7 +108,7 @@ module _ {call : Call} {from : ℕ} {first : RenderState} {rows₀ rows : List R
 
   -- how many characters are looked up for entries, and for the whole pass
   abbrev looked_for : List Entry → ℕ
-  looked_for = sum_of (looked_in call)
+  looked_for = sum_by (looked_in call)
 
   abbrev Looked : ℕ
   Looked = looked_for (entries_from call from first true)
@@ -154,19 +154,11 @@ module _ {call : Call} {from : ℕ} {first : RenderState} {rows₀ rows : List R
   -- the slice at the place
   pub pass_asks : (at ≡ length call.msg.now → ⊥) → {r : ℕ} → r ≡ at + slice_len (drop at call.msg.now) → Sliced call at r
   pass_asks d {r} e =
-      let a : Accepts call.file.now call.table = accepts call.file.now call.table call.opened.0 call.bytes call.opened.1 in
       let h : at < length call.msg.now = omega (arith, z.within) in
-      record {
-        more = h;
-        next = e;
-        forward = next_from at call.msg.now h r e;
-        within = next_le at call.msg.now h r e;
-        lines = a.good.config.line_to;
-        pages = a.good.config.page_to;
-      }
+      record { more = h; next = e; forward = next_from at call.msg.now h r e; within = next_le at call.msg.now h r e }
 
   -- the slice at the place: r is its end, t what it does
-  module _ {r : ℕ} {t : Step} (g : Steps call st blank at r t) where
+  module _ {r : ℕ} {t : Result Step Refusal} (g : Steps call st blank at r t) where
     bytes : List ℕ
     bytes = take (r - at) (drop at call.msg.now)
 
@@ -192,10 +184,10 @@ module _ {call : Call} {from : ℕ} {first : RenderState} {rows₀ rows : List R
     stepped = sym g.does
 
     -- the ending and the entries from here on, by a step
-    abbrev ending : Step → Ending
+    abbrev ending : Result Step Refusal → Ending
     ending = ending_by st (items_in call r) (ending_from call r)
 
-    abbrev entries : Step → List Entry
+    abbrev entries : Result Step Refusal → List Entry
     entries = entries_by (entries_from call r)
 
     here_ending : ending_from call at st blank ≡ ending t
@@ -211,7 +203,7 @@ module _ {call : Call} {from : ℕ} {first : RenderState} {rows₀ rows : List R
         (step_within c st blank (item_at c slice) (item_within c.long_times at bytes (omega (arith, size, more))))
 
     -- the step is u
-    module _ {u : Step} (q : t ≡ u) where
+    module _ {u : Result Step Refusal} (q : t ≡ u) where
       ends_so : ending u ≡ End
       ends_so = sym (here_ending ∙ ap ending q) ∙ z.ending
 
@@ -224,7 +216,7 @@ module _ {call : Call} {from : ℕ} {first : RenderState} {rows₀ rows : List R
       lies_so : StepWithin c st (item_at c slice) u
       lies_so = subst (StepWithin c st (item_at c slice)) q lies
 
-    pub pass_refuse : {x : Refusal} → t ≡ Refuse x → Ends (Err x)
+    pub pass_refuse : {x : Refusal} → t ≡ Err x → Ends (Err x)
     pass_refuse q = record { ends = ends_so q; done = tt; room = z.room }
 
     -- the place past the slice
@@ -245,14 +237,23 @@ module _ {call : Call} {from : ℕ} {first : RenderState} {rows₀ rows : List R
           next = i;
         }
 
-    pub pass_cut : {st' : RenderState} → t ≡ Cut st' → Ends (Ok (done ByCut (next st')))
-    pass_cut {st'} q = finish ByCut (next st') (ends_so q) (closed ByCut st' (spans_so q) (sum_so q) (omega arith) (fits_inside c st'.rect (lies_so q).1))
+    -- the step is u, which is v
+    goes : {u v : Step} → t ≡ Ok u → u ≡ v → t ≡ Ok v
+    goes q e = q ∙ ap (λ (x : Step). Ok x) e
 
-    pub pass_turn : t ≡ Turn → Ends (Ok (done ByTurn (next st)))
-    pass_turn q = finish ByTurn (next st) (ends_so q) (closed ByTurn st (spans_so q) (sum_so q) (omega arith) (rw z.rect z.asked.inside))
+    pub pass_cut : {u : Step} {st' : RenderState} → t ≡ Ok u → u ≡ Cut st' → Ends (Ok (done ByCut (next st')))
+    pass_cut {st' = st'} k e =
+        let q : t ≡ Ok (Cut st') = goes k e in
+        finish ByCut (next st') (ends_so q) (closed ByCut st' (spans_so q) (sum_so q) (omega arith) (fits_inside c st'.rect (lies_so q).1))
 
-    pub pass_go : {st' : RenderState} {b : Bool} → t ≡ Go st' b → Stands call from first rows₀ rows (next st') b held
-    pass_go {st'} q =
+    pub pass_turn : {u : Step} → t ≡ Ok u → u ≡ Turn → Ends (Ok (done ByTurn (next st)))
+    pass_turn k e =
+        let q : t ≡ Ok Turn = goes k e in
+        finish ByTurn (next st) (ends_so q) (closed ByTurn st (spans_so q) (sum_so q) (omega arith) (rw z.rect z.asked.inside))
+
+    pub pass_go : {u : Step} {st' : RenderState} {b : Bool} → t ≡ Ok u → u ≡ Go st' b → Stands call from first rows₀ rows (next st') b held
+    pass_go {st' = st'} {b} k e =
+        let q : t ≡ Ok (Go st' b) = goes k e in
         record {
           counted = omega (arith, z.counted, more);
           few = omega (arith, z.few, more);
@@ -267,8 +268,11 @@ module _ {call : Call} {from : ℕ} {first : RenderState} {rows₀ rows : List R
         }
 
     -- a span: its row is stored
-    module _ {x : Entry} {st' : RenderState} {b : Bool} (q : t ≡ Emit x st' b) where
-      spoke : StepWithin c st (item_at c slice) (Emit x st' b)
+    module _ {u : Step} {x : Entry} {st' : RenderState} {b : Bool} (k : t ≡ Ok u) (e : u ≡ Emit x st' b) where
+      q : t ≡ Ok (Emit x st' b)
+      q = goes k e
+
+      spoke : StepWithin c st (item_at c slice) (Ok (Emit x st' b))
       spoke = lies_so q
 
       starts : x.start ≡ at
@@ -323,14 +327,14 @@ module _ {call : Call} {from : ℕ} {first : RenderState} {rows₀ rows : List R
                 ∙ ap (λ (y : List Row). y ++ later) (rows_put rows p.count (f x) pass_stores.room)
                 ∙ append_assoc (rows_of rows p.count) (f x ∷ []) later
                 ∙ spans_so q;
-            sum = omega (arith, w.looked, sum_so q);
+            sum = omega (arith, w.looked, sum_by-cons (looked_in call) x (entries_from call r st' b), sum_so q);
             holds = w.holds;
           }
 
 module _ {call : Call} {from : ℕ} {first : RenderState} {rows : List Row}
     (asked : PassAsked call from first rows) where
   -- where the loop begins
-  pub pass_start : {q : Reached} {held : Held} → q ≡ start_at from first → held.font ≡ None → Stands call from first rows rows q true held
+  pub pass_start : {q : Reached} {held : Held} → q ≡ start_at from first → held.number ≡ None → Stands call from first rows rows q true held
   pass_start {held = held} d e =
       subst (λ (q : Reached). Stands call from first rows rows q true held) (sym d)
       (record {
@@ -348,12 +352,12 @@ module _ {call : Call} {from : ℕ} {first : RenderState} {rows : List Row}
 
 -- ---- the widths of a font
 
-font_same : (o : Option ℕ) (n : ℕ) → not (option_eq eqb o (Some n)) ≡ false → o ≡ Some n
-font_same None n e = cc
-font_same (Some m) n e = ap (λ (k : ℕ). Some k) (eqb-true m n (not-false (eqb m n) e))
+number_same : (o : Option ℕ) (n : ℕ) → not (option_eq eqb o (Some n)) ≡ false → o ≡ Some n
+number_same None n e = cc
+number_same (Some m) n e = ap (λ (k : ℕ). Some k) (eqb-true m n (not-false (eqb m n) e))
 
-pub held_same : (call : Call) (h : Held) (n : ℕ) {b : Bool} → Holds call h → b ≡ not (option_eq eqb h.font (Some n)) → b ≡ false
-    → (h.font ≡ Some n) × WidthsOf call n h.widths
+pub held_same : (call : Call) (h : Held) (n : ℕ) {b : Bool} → Holds call h → b ≡ not (option_eq eqb h.number (Some n)) → b ≡ false
+    → (h.number ≡ Some n) × WidthsOf call n h.font
 held_same call h n k d e =
-    let s : h.font ≡ Some n = font_same h.font n (sym d ∙ e) in
-    (s, subst (λ (o : Option ℕ). IfSome o (λ m. WidthsOf call m h.widths)) s k)
+    let s : h.number ≡ Some n = number_same h.number n (sym d ∙ e) in
+    (s, subst (λ (o : Option ℕ). IfSome o (λ m. WidthsOf call m h.font)) s k)

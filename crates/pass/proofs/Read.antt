@@ -8,21 +8,23 @@ use Rattle.records.specs.declared.Config.{Config}
 use Rattle.layout.specs.declared.RenderState.{RenderState}
 use Rattle.layout.specs.declared.Entry.{Entry}
 use Rattle.layout.specs.declared.Step.{Step}
-use Rattle.layout.specs.declared.Step.TheVariants.{Refuse, Go, Emit, Cut, Turn}
+use Rattle.layout.specs.declared.Step.TheVariants.{Go, Emit, Cut, Turn}
+use Rattle.std.specs.Prelude.{Result, Ok, Err}
+use Rattle.refusal.specs.declared.Refusal.{Refusal}
 use Rattle.layout.specs.Types.{Item}
 use Rattle.layout.specs.Read.{step, follow, read}
 use Rattle.pass.specs.Pass.{entries_by, entries_of, ending_by, ending_of, events_by}
 
 module _ (c : Config) (a b : ℕ) where
-  follow_pass : (st : RenderState) (acc : List Entry) (its : List Item) (t : Step)
+  follow_pass : (st : RenderState) (acc : List Entry) (its : List Item) (t : Result Step Refusal)
       → ((st' : RenderState) (bl : Bool) (l : List Entry) → read c its a b st' bl l ≡ events_by c a b (l ++ entries_of c its st' bl) (ending_of c its st' bl))
       → follow c a b st acc its (read c its) t ≡ events_by c a b (acc ++ entries_by (entries_of c its) t) (ending_by st its (ending_of c its) t)
-  follow_pass st acc its (Refuse r) h = refl
-  follow_pass st acc its (Go st' bl) h = h st' bl acc
-  follow_pass st acc its (Emit e st' bl) h =
+  follow_pass st acc its (Err r) h = refl
+  follow_pass st acc its (Ok (Go st' bl)) h = h st' bl acc
+  follow_pass st acc its (Ok (Emit e st' bl)) h =
       h st' bl (acc ++ (e ∷ [])) ∙ ap (λ (l : List Entry). events_by c a b l (ending_of c its st' bl)) (append_assoc acc (e ∷ []) (entries_of c its st' bl))
-  follow_pass st acc its (Cut st') h = rw (append-nil acc)
-  follow_pass st acc its Turn h = rw (append-nil acc)
+  follow_pass st acc its (Ok (Cut st')) h = rw (append-nil acc)
+  follow_pass st acc its (Ok Turn) h = rw (append-nil acc)
 
   read_from_law : (its : List Item) (st : RenderState) (bl : Bool) (acc : List Entry)
       → read c its a b st bl acc ≡ events_by c a b (acc ++ entries_of c its st bl) (ending_of c its st bl)

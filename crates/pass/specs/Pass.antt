@@ -1,5 +1,5 @@
 -- A pass as the code reads it: its spans, and how it ends. `read_pass` of proofs/Read.antt says that layout's `read` is made of these.
-use Rattle.std.specs.Prelude.{ℕ, ◌+◌, ◌-◌, ◌≤◌, ◌<◌, ◌≡◌, Bool, true, List, [], ◌∷◌, map, length, set, take, drop, Result, Ok, Err, IfSome, IfOk}
+use Rattle.std.specs.Prelude.{ℕ, ◌+◌, ◌-◌, ◌≤◌, ◌<◌, ◌≡◌, Bool, true, List, [], ◌∷◌, map, length, set, take, drop, Result, Ok, Err, IfSome, IfOk, sum_by}
 use Rattle.token.specs.Token.{slice_len}
 use Rattle.refusal.specs.declared.Refusal.{Refusal}
 use Rattle.records.specs.declared.Config.{Config}
@@ -7,14 +7,14 @@ use Rattle.layout.specs.declared.Rect.{Rect}
 use Rattle.layout.specs.declared.RenderState.{RenderState}
 use Rattle.layout.specs.declared.Entry.{Entry}
 use Rattle.layout.specs.declared.Step.{Step}
-use Rattle.layout.specs.declared.Step.TheVariants.{Refuse, Go, Emit, Cut, Turn}
+use Rattle.layout.specs.declared.Step.TheVariants.{Go, Emit, Cut, Turn}
 use Rattle.layout.specs.Types.{Item, item_at}
-use Rattle.layout.specs.Read.{step, Scan, scan, Event, pass, close, stop, stop_if, new_page, read}
+use Rattle.layout.specs.declared.Scan.{Scan}
+use Rattle.layout.specs.Read.{step, scan, Event, pass, close, stop, stop_if, new_page, read}
 use Rattle.page.specs.Scan.{items_from}
 use Rattle.rows.specs.Rows.{RowRoom, rows_of}
 use Rattle.rows.specs.declared.Row.{Row}
 use Rattle.rows.specs.Measured.{row_of}
-use Rattle.counts.specs.Placing.{sum_of}
 use Rattle.meter.specs.Gauges.{WidthsOf, EntryIn, meter_in, looked_by}
 use Rattle.meter.specs.declared.call.Call.{Call}
 use Rattle.pass.specs.declared.How.{How}
@@ -28,24 +28,24 @@ pub data Ending : Type 0 where
   refused : Refusal → Ending
   ended : How → Rect → RenderState → List Item → Ending
 
-abbrev pub entries_by : (RenderState → Bool → List Entry) → Step → List Entry
-entries_by next (Refuse r) = []
-entries_by next (Go st b) = next st b
-entries_by next (Emit e st b) = e ∷ next st b
-entries_by next (Cut st) = []
-entries_by next Turn = []
+abbrev pub entries_by : (RenderState → Bool → List Entry) → Result Step Refusal → List Entry
+entries_by next (Err r) = []
+entries_by next (Ok (Go st b)) = next st b
+entries_by next (Ok (Emit e st b)) = e ∷ next st b
+entries_by next (Ok (Cut st)) = []
+entries_by next (Ok Turn) = []
 
 -- the spans of a pass
 abbrev pub entries_of : Config → List Item → RenderState → Bool → List Entry
 entries_of c [] st blank = []
 entries_of c (it ∷ its) st blank = entries_by (entries_of c its) (step c st blank it)
 
-abbrev pub ending_by : RenderState → List Item → (RenderState → Bool → Ending) → Step → Ending
-ending_by st its next (Refuse r) = refused r
-ending_by st its next (Go st' b) = next st' b
-ending_by st its next (Emit e st' b) = next st' b
-ending_by st its next (Cut st') = ended ByCut st.rect st' its
-ending_by st its next Turn = ended ByTurn st.rect st its
+abbrev pub ending_by : RenderState → List Item → (RenderState → Bool → Ending) → Result Step Refusal → Ending
+ending_by st its next (Err r) = refused r
+ending_by st its next (Ok (Go st' b)) = next st' b
+ending_by st its next (Ok (Emit e st' b)) = next st' b
+ending_by st its next (Ok (Cut st')) = ended ByCut st.rect st' its
+ending_by st its next (Ok Turn) = ended ByTurn st.rect st its
 
 -- how it ends
 abbrev pub ending_of : Config → List Item → RenderState → Bool → Ending
@@ -53,7 +53,7 @@ ending_of c [] st blank = ended ByEnd st.rect st []
 ending_of c (it ∷ its) st blank = ending_by st its (ending_of c its) (step c st blank it)
 
 -- what the slice s, which starts at a place, does
-unfoldable pub step_at : Config → RenderState → Bool → ℕ → List ℕ → Step
+unfoldable pub step_at : Config → RenderState → Bool → ℕ → List ℕ → Result Step Refusal
 step_at c st blank at s = step c st blank (item_at c (record { start = at; bytes = s }))
 
 -- before the first span
@@ -82,11 +82,9 @@ pub record Sliced (call : Call) (at end : ℕ) : Type 0 where
   pub next : end ≡ at + slice_len (drop at call.msg.now)
   pub forward : at ≤ end
   pub within : end ≤ length call.msg.now
-  pub lines : call.table.config.line_just ≤ 4
-  pub pages : call.table.config.page_just ≤ 4
 
 -- what it does
-pub record Steps (call : Call) (st : RenderState) (blank : Bool) (at end : ℕ) (r : Step) : Type 0 where
+pub record Steps (call : Call) (st : RenderState) (blank : Bool) (at end : ℕ) (r : Result Step Refusal) : Type 0 where
   pub more : at < length call.msg.now
   pub next : end ≡ at + slice_len (drop at call.msg.now)
   pub does : r ≡ step_at call.table.config st blank at (take (end - at) (drop at call.msg.now))
@@ -108,9 +106,9 @@ row_in call = row_of (meter_in call.file.now call.msg.now)
 abbrev pub looked_in : Call → Entry → ℕ
 looked_in call = looked_by call.file.now call.msg.now
 
--- the widths held are those of the font held, if there is one
+-- the font held is the one with the number held, if there is one
 abbrev pub Holds : Call → Held → Type 0
-Holds call h = IfSome h.font (λ n. WidthsOf call n h.widths)
+Holds call h = IfSome h.number (λ n. WidthsOf call n h.font)
 
 -- a span's row can be stored
 pub record Storable (call : Call) (e : Entry) (held : Held) (rows : List Row) (n : ℕ) : Type 0 where
@@ -135,7 +133,7 @@ pub record PassAsked (call : Call) (from : ℕ) (first : RenderState) (rows : Li
 -- rectangles lie inside the sign
 pub record SpansRead (call : Call) (from : ℕ) (first : RenderState) (rows : List Row) (d : PassDone) : Type 0 where
   pub spans : rows_of rows d.reached.count ≡ map (row_in call) (entries_from call from first true)
-  pub looked : d.reached.looked ≡ sum_of (looked_in call) (entries_from call from first true)
+  pub looked : d.reached.looked ≡ sum_by (looked_in call) (entries_from call from first true)
   pub counted : from + d.reached.count + tag_bytes d.how ≤ d.reached.at
   pub few : from + d.reached.looked ≤ d.reached.at
   pub within : d.reached.at ≤ length call.msg.now

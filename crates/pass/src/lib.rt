@@ -1,15 +1,13 @@
 // Reading a pass: the values of a message up to [tr], [np] or the end, into rows of measured spans.
 #![tactic(auto)]
 
-ghost use Rattle.std.specs.Prelude.{◌≡◌, ◌≤◌, Some, None};
-ghost use Rattle.layout.specs.Read.{item_step};
+ghost use Rattle.std.specs.Prelude.{◌≡◌, Some, None};
 ghost use Rattle.meter.specs.Gauges.{WidthsOf};
 ghost use Rattle.pass.specs.Pass.{start_at, Holds, Sliced, Steps, Storable, Stored, PassAsked, PassRead};
 
+use font::FontWidths;
 use layout::{Entry, Rect, RenderState, Step};
 use meter::Call;
-use reading::Said;
-use records::Config;
 use refusal::Refusal;
 use rows::Row;
 use value::Place;
@@ -55,74 +53,66 @@ pub struct PassDone {
     pub reached: Reached,
 }
 
-// What an item at a place does.
-fn step_by(c: Config, st: RenderState, blank: bool, p: Place, item: Said) -> Step
-    requires { (c.line_just ≤ 4) × (c.page_just ≤ 4) }
-    ensures { result ≡ item_step c st blank p item }
-{
-    match item {
-        Said::Is(v) => render::step(c, st, blank, p, v),
-        Said::Fails(number) => Step::Refuse(Refusal {
-            number,
-            start: p.start,
-            length: p.len,
-            detail: 0,
-        }),
-    }
-}
-
 // What the slice from a place to its end does.
 #[tactic(auto, unfolding(crate::specs::Pass::step_at, layout::specs::Read::step))]
-fn step_at(call: &Call, at: usize, end: usize, st: RenderState, blank: bool) -> Step
+fn step_at(
+    call: &Call,
+    at: usize,
+    end: usize,
+    st: RenderState,
+    blank: bool,
+) -> Result<Step, Refusal>
     requires { Sliced call.now at end }
     ensures { Steps call.now st blank at end result }
 {
     let c = call.table.config;
     let s = &call.msg[at..end];
-    let item = reading::item_of(at, s, c.long_times);
     let p = Place {
         start: at as u16,
         len: s.len() as u16,
     };
-    step_by(c, st, blank, p, item)
+    match reading::item_of(at, s, c.long_times) {
+        Ok(v) => render::step(c, st, blank, p, v),
+        Err(e) => Err(layout::refusal_at(p, e.number())),
+    }
 }
 
-// The font that was measured in last, if any, and its widths.
+// The number of the font that was measured in last, if any, and that font with its widths, if the sign file has it.
 #[derive(Drop)]
-struct Held {
-    font: Option<u8>,
-    widths: [u16; 256],
+struct Held<'a> {
+    number: Option<u8>,
+    font: Option<FontWidths<'a, 256>>,
 }
 
-impl Held {
-    fn new() -> Held
-        ensures { result.font ≡ None }
+impl<'a> Held<'a> {
+    fn new() -> Held<'a>
+        ensures { result.number ≡ None }
     {
         Held {
+            number: None,
             font: None,
-            widths: [0; 256],
         }
     }
 
-    // Fills the widths anew if they are not the font's.
-    fn keep(&mut self, call: &Call, font: u8)
+    // Takes the widths anew if they are not the font's.
+    fn keep(&mut self, call: &Call<'a>, number: u8)
         requires { Holds call.now self.old }
-        ensures { (self.new.font ≡ Some font) × WidthsOf call.now font self.new.widths }
+        ensures { (self.new.number ≡ Some number) × WidthsOf call.now number self.new.font }
     {
-        if self.font != Some(font) {
-            self.font = Some(font);
-            self.widths = meter::widths_of(call, font);
+        if self.number != Some(number) {
+            self.number = Some(number);
+            self.font = meter::widths_of(call, number);
         }
     }
 }
 
 // Stores a span's row, and answers how many characters its measure looked up.
-fn store(call: &Call, e: Entry, held: &mut Held, rows: &mut [Row], n: usize) -> usize
+fn store<'a>(call: &Call<'a>, e: Entry, held: &mut Held<'a>, rows: &mut [Row], n: usize) -> usize
     requires { Storable call.now e held.old rows.old n }
     ensures { Stored call.now e rows.old n held.new rows.new result }
 {
     held.keep(call, e.state.font);
-    let (row, looked) = meter::row_of(call, &held.widths, e);
+    let (row, looked) = meter::row_of(call, &held.font, e);
     rows[n] = row;
     looked
 }
@@ -146,10 +136,9 @@ pub fn read_pass(
         }
         let at = p.at;
         let end = token::slice_end(call.msg, at);
-        let step = step_at(call, at, end, p.state, blank);
+        let step = step_at(call, at, end, p.state, blank)?;
         p.at = end;
         match step {
-            Step::Refuse(r) => return Err(r),
             Step::Go(next, b) => {
                 p.state = next;
                 blank = b;
