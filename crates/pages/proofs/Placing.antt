@@ -3,6 +3,7 @@ use Prim.Native.Nat.{ℕ, ◌+◌}
 use mathlib.Core.Path.{◌≡◌, sym, ◌∙◌, ap, subst}
 use mathlib.Core.Bool.{true}
 use Rattle.std.specs.Prelude.{Option, Result, Ok, Err, IfOk}
+use Rattle.std.specs.Result.{result_err}
 use mathlib.Core.List.{List, ◌++◌}
 use native.Mathlib.Omega.{arith}
 use Rattle.refusal.specs.declared.Refusal.{Refusal}
@@ -18,7 +19,7 @@ use Rattle.layout.specs.declared.Span.{Span}
 use Rattle.layout.specs.Types.{Board}
 use Rattle.layout.specs.Placing.{pass_fault, pass_records}
 use Rattle.rows.specs.Rows.{rows_of, spans_of}
-use Rattle.place.specs.Placed.{refused_by, rows_fault, rows_records, Placeable, PassPlaced}
+use Rattle.place.specs.Placed.{rows_fault, rows_records, Placeable, PassPlaced}
 use Rattle.place.proofs.Laws.{asks_part, written_part}
 use borrow.Rule.Slice.PartMut.{put_mid}
 use lib.ListN.{length-append, length-drop, length-take}
@@ -105,7 +106,7 @@ module _ {call : Call} {p : Reached} {rows₀ : List Row} {out : List Span} {row
       records_are =
           ap (rows_records c d.rect) spans.spans ∙ pass_records_law (meter_in call.file.now call.msg.now) (meter_told call.file.now call.msg.now) c d.rect es
 
-      ends_by : {y : Option Refusal} → refused_by o ≡ y → stop_by y (told c call.msg.now (Ok d)) ≡ placed_ending s es end
+      ends_by : {y : Option Refusal} → result_err o ≡ y → stop_by y (told c call.msg.now (Ok d)) ≡ placed_ending s es end
       ends_by e =
           ap (λ (x : Option Refusal). stop_by x (told c call.msg.now (Ok d))) (sym e ∙ placed.fault ∙ fault_is_law)
           ∙ ap (placed_ending s es) (ap (told c call.msg.now) (sym q) ∙ read.ends)
@@ -118,7 +119,7 @@ module _ {call : Call} {p : Reached} {rows₀ : List Row} {out : List Span} {row
       room e = part_room from (from + n - from) out part (omega (arith, render_room)) e
 
       pub render_stop : {x : Refusal} → o ≡ Err x → length part ≡ length (take (from + n - from) (drop from out)) → Rendered out' (Err x)
-      render_stop e l = record { ends = ends_by (ap refused_by e); done = tt; rowed = read.room; room = room l }
+      render_stop e l = record { ends = ends_by (ap result_err e); done = tt; rowed = read.room; room = room l }
 
       -- the records of the page so far, and its characters looked up
       written : o ≡ Ok tt → spans_of out' (from + n) ≡ spans_of out from ++ pass_records s d.rect es
@@ -150,7 +151,7 @@ module _ {call : Call} {p : Reached} {rows₀ : List Row} {out : List Span} {row
       pub render_done : o ≡ Ok tt → length part ≡ length (take (from + n - from) (drop from out)) → Rendered out' (Ok so_far)
       render_done e l =
           record {
-            ends = ends_by (ap refused_by e);
+            ends = ends_by (ap result_err e);
             done =
                 record {
                   written = written e;
