@@ -34,7 +34,8 @@ use Rattle.layout.specs.declared.RenderState.{RenderState}
 use Rattle.layout.specs.declared.Entry.{Entry}
 use Rattle.layout.specs.Types.{Item, item_at, items, Board}
 use Rattle.layout.specs.Placing.{pass_records, record_of}
-use Rattle.layout.specs.Read.{Scan, Event, pass, close, stop, opening, events}
+use Rattle.layout.specs.declared.Scan.{Scan}
+use Rattle.layout.specs.Read.{Event, pass, close, stop, opening, events}
 use Rattle.layout.specs.Listing.{Page, on, stop_at, offs, pass_stop, walk, pages}
 use Rattle.layout.specs.Demand.{Role, text, hexadecimal, rectangle, page_just, new_page, other, role_in}
 use Rattle.layout.specs.Bounds.{breaks}
