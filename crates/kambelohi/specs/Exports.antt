@@ -12,8 +12,6 @@ use Rattle.counts.specs.declared.Placed.{Placed}
 use Rattle.kambelohi.specs.declared.PlaceAnswer.{PlaceAnswer}
 use Rattle.every.specs.declared.Listed.{Listed}
 use Rattle.kambelohi.specs.declared.ListAllAnswer.{ListAllAnswer}
-use Rattle.sentence.specs.declared.Told.{Told}
-use Rattle.sentence.specs.declared.Told.TheVariants.{Length, Refused as RefusedTo}
 use Rattle.kambelohi.specs.declared.SentenceAnswer.{SentenceAnswer}
 
 abbrev pub no_numbers : List ℕ
@@ -58,6 +56,6 @@ list_all_answer (Ok n) = record { kind = 1; answers = n.answers; records = n.rec
 list_all_answer (Err f) = record { kind = 2; answers = 0; records = 0; number = f.number; start = f.start; length = f.length; detail = f.detail }
 
 -- a sentence is 1, a refusal 2
-abbrev pub sentence_answer : Told → SentenceAnswer
-sentence_answer (Length n) = record { kind = 1; count = n; number = 0; start = 0; length = 0; detail = 0 }
-sentence_answer (RefusedTo f) = record { kind = 2; count = 0; number = f.number; start = f.start; length = f.length; detail = f.detail }
+abbrev pub sentence_answer : Result ℕ Refusal → SentenceAnswer
+sentence_answer (Ok n) = record { kind = 1; count = n; number = 0; start = 0; length = 0; detail = 0 }
+sentence_answer (Err f) = record { kind = 2; count = 0; number = f.number; start = f.start; length = f.length; detail = f.detail }

@@ -15,7 +15,6 @@ use every::{Listed, Shown};
 use layout::{Answer, Span};
 use reading::Reading;
 use refusal::Refusal;
-use sentence::Told;
 
 // kind: 0 a slice with its value, 1 the end of the message, 2 a refusal. Of a slice: start, length, and the value's code and eight numbers.
 // Of a refusal: number, start, length and detail. What a kind does not use is 0.
@@ -238,17 +237,17 @@ pub struct SentenceAnswer {
 }
 
 // The numbers of the length, or of the refusal.
-impl From<Told> for SentenceAnswer {
+impl From<Result<u16, Refusal>> for SentenceAnswer {
     ghost from_gives = { λ t r. r ≡ sentence_answer t };
 
-    fn from(t: Told) -> SentenceAnswer {
+    fn from(t: Result<u16, Refusal>) -> SentenceAnswer {
         match t {
-            Told::Length(n) => SentenceAnswer {
+            Ok(n) => SentenceAnswer {
                 kind: 1,
                 count: n,
                 ..SentenceAnswer::default()
             },
-            Told::Refused(f) => SentenceAnswer {
+            Err(f) => SentenceAnswer {
                 kind: 2,
                 number: u16::from(f.number),
                 start: f.start,

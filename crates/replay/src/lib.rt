@@ -6,7 +6,7 @@ mod input;
 mod score;
 mod stream;
 
-ghost use Rattle.std.specs.Prelude.{◌≡◌, ◌+◌, ◌*◌, ◌<◌, IfSome, OnSome};
+ghost use Rattle.std.specs.Prelude.{◌≡◌, ◌+◌, ◌*◌, ◌<◌, ◌≤◌, length, IfSome, OnSome};
 ghost use Rattle.replay.specs.Text.{plain_number, nibble_of, pair_of, digits_in, pairs_of};
 
 use arrayvec::ArrayVec;
@@ -15,12 +15,16 @@ pub use score::{BadStream, Score, print_other};
 pub use stream::{Kind, Phase, Stream};
 
 // How many words a line has: one more than its spaces.
-pub fn words(line: &[u8]) -> usize {
+pub fn words(line: &[u8]) -> usize
+    ensures { result ≤ length line.now + 1 }
+{
     line.split(|b| *b == b' ').count()
 }
 
 // Word n of a line, counted from 0, or nothing where there are fewer.
-pub fn word(line: &[u8], n: usize) -> &[u8] {
+pub fn word(line: &[u8], n: usize) -> &[u8]
+    ensures { length result.now ≤ length line.now }
+{
     line.split(|b| *b == b' ').nth(n).unwrap_or_default()
 }
 

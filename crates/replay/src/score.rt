@@ -1,4 +1,6 @@
 // What is printed. A write that fails is passed over.
+ghost use Rattle.std.specs.Prelude.{◌≡◌, ◌+◌, ◌-◌, ◌^◌, ◌↔◌, min, if◌then◌else◌, false, IsTrue};
+
 use crate::Kind;
 use std::fmt;
 
@@ -11,7 +13,11 @@ pub struct Score {
 
 impl Score {
     // A case more. Whether it is the first that does not agree.
-    pub fn count(&mut self, agrees: bool) -> bool {
+    pub fn count(&mut self, agrees: bool) -> bool
+        ensures first { IsTrue result ↔ ((agrees ≡ false) × (self.old.agree ≡ self.old.cases)) }
+        ensures cases { self.new.cases ≡ min (self.old.cases + 1) (2 ^ 32 - 1) }
+        ensures agree { self.new.agree ≡ (if agrees then min (self.old.agree + 1) (2 ^ 32 - 1) else self.old.agree) }
+    {
         let first = !agrees && self.agree == self.cases;
         self.cases = self.cases.saturating_add(1);
         if agrees {

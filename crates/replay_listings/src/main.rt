@@ -3,77 +3,123 @@
 
 mod compare;
 
-ghost use Rattle.std.specs.Prelude.{length, ◌≡◌, ◌*◌};
-ghost use Rattle.rows.specs.Rows.{span_width};
-
+use arrayvec::ArrayVec;
 use compare::Check;
-use replay::Input;
+use layout::Span;
+use replay::{BadStream, Input, Kind, Line, Score};
 use std::io::Read;
 
-// `refused NUMBER COUNT`, or `end COUNT` for 0.
-fn print_ending(rt: &impl Print, number: u64, count: u32) {
-    if number == 0 {
-        let _ = println!(rt; "end {count}");
-    } else {
-        let _ = println!(rt; "refused {number} {count}");
-    }
+// The sign file that came last, the case whose answers are read with its message, and how many cases agree and how these end.
+#[derive(Drop)]
+struct Replay {
+    file: Option<ArrayVec<u8, 131072>>,
+    check: Option<Check>,
+    msg: ArrayVec<u8, 8192>,
+    out: [Span; rows::ROOM],
+    score: Score,
+    ends: u32,
+    refusals: [u32; 16],
 }
 
-// The endings that came.
-fn print_endings(rt: &impl Print, endings: &[u32; 16]) {
-    let mut k: usize = 0;
-    while k < 16 {
-        if 0 < endings[k] {
-            print_ending(rt, k as u64, endings[k]);
+impl Replay {
+    // At a case line, or the end. None where its words are not of the format, or no file came before an L line.
+    fn open(&mut self, text: &[u8]) -> Option<()> {
+        match Kind::of(text) {
+            Some(Kind::S) => {
+                let mut file = ArrayVec::new();
+                replay::bytes(replay::word(text, 1), &mut file)?;
+                self.file = Some(file);
+            }
+            Some(Kind::L) => {
+                self.file.as_ref()?;
+                replay::bytes(replay::word(text, 1), &mut self.msg)?;
+                self.check = Some(Check::default());
+            }
+            _ => {}
         }
-        k += 1;
+        Some(())
     }
-}
 
-// What is printed at the end.
-fn print_all(rt: &impl Print, input: Input, check: Check) {
-    if check.good && input.is_whole() {
-        let endings = check.endings;
-        replay::print_score(rt, b'L', check.agreed, check.cases);
-        print_endings(rt, &endings);
-        return;
+    // A case that agrees is counted by how it ended.
+    fn agreed(&mut self, refused: Option<u8>) {
+        let Some(number) = refused else {
+            self.ends = self.ends.saturating_add(1);
+            return;
+        };
+        if let Some(n) = self.refusals.get_mut(usize::from(number)) {
+            *n = n.saturating_add(1);
+        }
     }
-    replay::print_bad(rt, input.line);
-}
 
-// Nothing says that the input ends: the turns are counted down from a number that no run uses up.
-fn run_all(
-    rt: &impl Print,
-    stdin: &mut impl Read,
-    buf: &mut [u8],
-    file: &mut [u8],
-    msg: &mut [u8],
-    out: &mut [u16],
-)
-    requires { length out.old ≡ span_width * 2048 }
-{
-    let mut input = Input::start();
-    let mut check = compare::none();
-    let mut turns = u64::MAX;
-    while turns > 0 && input.going && check.good {
-        input = input.next(stdin, buf, false);
-        check = check.after_turn(rt, input, buf, file, msg, out);
-        turns -= 1;
+    // After the last line of an answer: the case is counted, and told if it does not agree.
+    fn settle(&mut self, rt: &impl Print, check: Check) {
+        self.score.count(check.other.is_none());
+        match check.other {
+            None => self.agreed(check.refused),
+            Some(line) => replay::print_other(rt, line, b"L"),
+        }
     }
-    print_all(rt, input, check);
+
+    // After a line.
+    fn turn(&mut self, rt: &impl Print, line: &Line) -> Result<(), BadStream> {
+        if !line.was.is_listing() {
+            if line.was.answering().is_some() {
+                return Ok(());
+            }
+            return self.open(line.text).ok_or(BadStream { line: line.number });
+        }
+        let (Some(mut check), Some(file)) = (self.check, &self.file) else {
+            return Ok(());
+        };
+        check.listed(line, file.as_slice(), self.msg.as_slice(), &mut self.out);
+        self.check = Some(check);
+        if !line.then.is_listing() {
+            self.settle(rt, check);
+        }
+        Ok(())
+    }
+
+    // Nothing says that the input ends: the turns are counted up to a number that no run uses up.
+    fn run(&mut self, rt: &impl Print, input: &mut Input<impl Read>) -> Result<(), BadStream> {
+        for _ in 0..u64::MAX {
+            let Some(line) = input.next()? else {
+                break;
+            };
+            self.turn(rt, &line)?;
+        }
+        Ok(())
+    }
+
+    // How many agree, and the endings that came.
+    fn print(&self, rt: &impl Print) {
+        self.score.print(rt, Kind::L);
+        if 0 < self.ends {
+            let _ = println!(rt; "end {}", self.ends);
+        }
+        for (number, count) in self.refusals.iter().enumerate() {
+            if 0 < *count {
+                let _ = println!(rt; "refused {number} {count}");
+            }
+        }
+    }
 }
 
 fn main(rt: HostRuntime) {
     let mut buf = [0u8; 524288];
-    let mut file = [0u8; 131072];
-    let mut msg = [0u8; 8192];
-    let mut out = [0u16; rows::SPAN_ROOM];
-    run_all(
-        &rt,
-        &mut rt.stdin(),
-        &mut buf,
-        &mut file,
-        &mut msg,
-        &mut out,
-    );
+    let mut replay = Replay {
+        file: None,
+        check: None,
+        msg: ArrayVec::new(),
+        out: [rows::BLANK_SPAN; rows::ROOM],
+        score: Score::default(),
+        ends: 0,
+        refusals: [0; 16],
+    };
+    let mut input = Input::new(rt.stdin(), &mut buf);
+    match replay.run(&rt, &mut input) {
+        Ok(()) => replay.print(&rt),
+        Err(bad) => {
+            let _ = println!(rt; "{bad}");
+        }
+    }
 }
