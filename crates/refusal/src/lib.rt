@@ -1,8 +1,11 @@
 // A refusal, as every call answers it: document 01, "The calls".
 #![tactic(auto)]
 
-// "A refusal holds number, start, length and detail (zeros unless said)".
-#[derive(Clone, Copy)]
+ghost use Rattle.std.specs.Prelude.{◌≡◌};
+ghost use Rattle.refusal.specs.Refusals.{refusal};
+
+// "A refusal holds number, start, length and detail (zeros unless said)". The number stays one, no enum: the sentence call takes any.
+#[derive(Clone, Copy, Default)]
 pub struct Refusal {
     pub number: u8,
     pub start: u16,
@@ -10,8 +13,14 @@ pub struct Refusal {
     pub detail: u16,
 }
 
-#[derive(Clone, Copy)]
-pub enum OptRefusal {
-    Some(Refusal),
-    None,
+impl Refusal {
+    // A refusal that says no more than its number.
+    pub fn of(number: u8) -> Refusal
+        ensures { result ≡ refusal number 0 0 0 }
+    {
+        Refusal {
+            number,
+            ..Refusal::default()
+        }
+    }
 }
