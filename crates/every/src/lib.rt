@@ -133,8 +133,8 @@ fn opened(file: &[u8], msg: &[u8], answers: usize, records: usize) -> Result<Sig
     Ok(call.table)
 }
 
-// All answers before the first refusal, if there is one, for slices of so many answers and records: they stand first in the slices. The rows of
-// a short message take less of the stack.
+// All answers before the first refusal, if there is one, for slices of so many answers and records: they stand first in the slices. For a
+// short message fewer rows are cleared.
 pub fn gather(
     file: &[u8],
     msg: &[u8],
