@@ -11,7 +11,7 @@ use refusal::{OptRefusal, Refusal};
 use rows::{BLANK_ROW, ROOM, Row, SHORT_ROOM};
 use sign::SignFile;
 
-// An answer of a listing. kind: 1 on, 2 off; its duration in tenths of a second; the number of its first record, and how many it has.
+// An answer of a listing, as C has it, so that its kind is a number: 1 on, 2 off; its duration in tenths of a second; the number of its first record, and how many it has.
 #[repr(C)]
 #[derive(Clone, Copy)]
 pub struct Shown {
@@ -70,6 +70,7 @@ fn shown_by(x: PageShown, n: usize) -> Shown
 }
 
 // Answer after answer, up to the end or the first refusal: each has the records behind those before.
+// The pages tell the end and not the slice, so that no iterator of the slice counts the answers.
 fn walk(call: &Call, rows: &mut [Row], shown: &mut [Shown], out: &mut [Span]) -> Walked
     requires { WalkAsked call.now rows.old shown.old out.old }
     ensures { Walks call.now shown.new out.new result }
