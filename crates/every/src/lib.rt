@@ -11,7 +11,8 @@ use refusal::{OptRefusal, Refusal};
 use rows::{BLANK_ROW, ROOM, Row, SHORT_ROOM};
 use sign::SignFile;
 
-// An answer of a listing, as C has it, so that its kind is a number: 1 on, 2 off; its duration in tenths of a second; the number of its first record, and how many it has.
+// An answer of a listing, as C has it, so that its kind is a number: 1 on, 2 off. Its duration in tenths of a second; the number of its first
+// record, and how many it has.
 #[repr(C)]
 #[derive(Clone, Copy)]
 pub struct Shown {
