@@ -71,7 +71,7 @@ fn paged<const N: usize>(call: &Call, number: usize, out: &mut [Span]) -> Placed
 }
 
 // The answer with its counts, and its records first in the slice, which has room for as many as the message has bytes. Behind the refusals of
-// every call comes 4, the listing's own. The rows of a short message take less of the stack.
+// every call comes 4, the listing's own. For a short message fewer rows are cleared.
 pub fn placed(file: &[u8], msg: &[u8], number: usize, room: usize, out: &mut [Span]) -> Placed
     requires { RecordRoom msg.now out.old }
     ensures { PlacedAs file.now msg.now number room out.old out.new result }

@@ -6,8 +6,9 @@ use mathlib.Core.Path.{◌≡◌, refl, sym, ◌∙◌, ap, subst}
 use mathlib.Core.Bool.{Bool, true, false}
 use Rattle.std.specs.Prelude.{Option, Some, None, Ok, Err}
 use mathlib.Core.List.{List, [], ◌∷◌, ◌++◌, append_assoc}
+use Rattle.std.proofs.lemmas.List.{get_or_append_left}
 use lib.Dec.{ltb, eqb}
-use lib.ListN.{length, get_or, take, drop, length-append, length-drop}
+use lib.ListN.{length, take, drop, length-append, length-drop}
 use lib.Seq.{take-append_seam, take-append-le, drop-append-le, drop_at}
 use borrow.Author.Tests.{le-ltb, ltb-true}
 use Rattle.base.specs.Pick.{pick}
@@ -61,10 +62,10 @@ last_end c (on d rs ∷ l) e k =
     ∙ ap End (let q : suc c + length (answers_in (k + length rs) l) ≡ c + suc (length (answers_in (k + length rs) l)) = omega arith in q)
 last_end c (off d ∷ l) e k =
     last_end (suc c) l e k ∙ ap End (let q : suc c + length (answers_in k l) ≡ c + suc (length (answers_in k l)) = omega arith in q)
-last_end c (refused r ∷ l) e k = absurd (let z : ◌≡◌ {A = ℕ} 0 1 = cc in omega arith)
+last_end c (refused r ∷ l) e k = absurd (cc)
 
 last_refused : (x : Refusal) (c : ℕ) (l : List Page) → refusal_in l ≡ Some x → (k : ℕ) → (numbered c l (length (answers_in k l))).answer ≡ RefusedAnswer x
-last_refused x c [] e k = absurd (let z : ◌≡◌ {A = ℕ} 0 1 = cc in omega arith)
+last_refused x c [] e k = absurd (cc)
 last_refused x c (on d rs ∷ l) e k = last_refused x (suc c) l e (k + length rs)
 last_refused x c (off d ∷ l) e k = last_refused x (suc c) l e k
 last_refused x c (refused r ∷ l) e k = cc
@@ -126,11 +127,6 @@ ways file msg a k = look (admission file msg) refl
 
 -- ---- places
 
-get_d_append : {A : Type 0} (l r : List A) (n : ℕ) (d : A) → n < length l → get_or (l ++ r) n d ≡ get_or l n d
-get_d_append [] r n d h = absurd (omega arith)
-get_d_append (x ∷ l) r zero d h = refl
-get_d_append (x ∷ l) r (suc n) d h = get_d_append l r n d (omega arith)
-
 -- the records of an answer lie within those of the pages, k records before them
 within : (k : ℕ) (l : List Page) (n : ℕ) → n < length (answers_in k l)
     → (answer_at (answers_in k l) n).first + (answer_at (answers_in k l) n).count ≤ k + length (records_in l)
@@ -184,7 +180,7 @@ module _ (file msg : List ℕ) (c : Config) (fs : List Font) (acc : admission fi
     K = length (records_in ps)
 
     answer_at_law : (n : ℕ) → n < N → answer_at answers n ≡ answer_at (answers_in 0 ps) n
-    answer_at_law n h = ap (λ (l : List Shown). answer_at l n) p ∙ get_d_append (answers_in 0 ps) (drop N ys) n (shown 0 0 0 0) h
+    answer_at_law n h = ap (λ (l : List Shown). answer_at l n) p ∙ get_or_append_left (answers_in 0 ps) (drop N ys) (shown 0 0 0 0) n h
 
     -- a call's records lie within all
     told_in : (n : ℕ) → n < N → records_told (answer_at (answers_in 0 ps) n) recs ≡ records_told (answer_at (answers_in 0 ps) n) (records_in ps)
@@ -250,7 +246,7 @@ module _ (file msg : List ℕ) (ys : List Shown) (zs : List Span) where
 
   calls_on : (N K : ℕ) → Ended N K → Ways file msg (length ys) (length zs) g → AsCalled file msg (answers_after file msg ys zs) (records_after file msg ys zs) N K
   calls_on N K e (early x p f) =
-      absurd (let q : None ≡ Some x = sym e.fine ∙ ap (λ (y : Gathered). y.refusal) p in let z : ◌≡◌ {A = ℕ} 0 1 = cc in omega arith)
+      absurd (let q : None ≡ Some x = sym e.fine ∙ ap (λ (y : Gathered). y.refusal) p in cc)
   calls_on N K e (walked c fs acc p) =
       let l : List Page = pages (board_of msg c fs) (items c msg) in
       let o : refusal_in l ≡ None = sym (ap (λ (y : Gathered). y.refusal) p) ∙ e.fine in

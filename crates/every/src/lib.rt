@@ -11,7 +11,8 @@ use refusal::Refusal;
 use rows::{BLANK_ROW, ROOM, Row, SHORT_ROOM};
 use sign::SignFile;
 
-// An answer of a listing. kind: 1 on, 2 off; its duration in tenths of a second; the number of its first record, and how many it has.
+// An answer of a listing, as C has it, so that its kind is a number: 1 on, 2 off. Its duration in tenths of a second; the number of its first
+// record, and how many it has.
 #[repr(C)]
 #[derive(Clone, Copy)]
 pub struct Shown {
@@ -70,6 +71,7 @@ fn shown_by(x: PageShown, n: usize) -> Shown
 }
 
 // Answer after answer, up to the end or the first refusal: each has the records behind those before.
+// The pages tell the end and not the slice, so that no iterator of the slice counts the answers.
 fn walk(call: &Call, rows: &mut [Row], shown: &mut [Shown], out: &mut [Span]) -> Walked
     requires { WalkAsked call.now rows.old shown.old out.old }
     ensures { Walks call.now shown.new out.new result }
@@ -130,8 +132,8 @@ fn opened(file: &[u8], msg: &[u8], answers: usize, records: usize) -> Result<Sig
     Ok(table)
 }
 
-// All answers before the first refusal, if there is one, for slices of so many answers and records: they stand first in the slices. The rows of
-// a short message take less of the stack.
+// All answers before the first refusal, if there is one, for slices of so many answers and records: they stand first in the slices. For a
+// short message fewer rows are cleared.
 pub fn gather(
     file: &[u8],
     msg: &[u8],

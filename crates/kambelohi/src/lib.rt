@@ -1,4 +1,5 @@
-// The calls that C and Rust link, with structs of numbers for answers: crate kambelohi_c exports them. include/kambelohi.h says the same in C.
+// The calls that C and Rust link, with structs of numbers for answers, since C has no enums with fields: crate kambelohi_c exports them.
+// include/kambelohi.h says the same in C.
 #![tactic(auto)]
 
 ghost use Rattle.std.specs.Prelude.{◌≡◌};

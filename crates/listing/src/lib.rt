@@ -23,8 +23,8 @@ fn place_in<const N: usize>(file: &[u8], message: &[u8], answer: usize, recs: &m
     p
 }
 
-// Placing: what the listing gives, and beside it the counts of the page. Sign file, message, answer number from 0, and the lent slice. A short
-// message takes less of the stack: one record for each of its bytes is enough.
+// Placing: what the listing gives, and beside it the counts of the page. Sign file, message, answer number from 0, and the lent slice. For a short
+// message fewer records are cleared: one for each of its bytes is enough.
 pub fn place(file: &[u8], message: &[u8], answer: usize, recs: &mut [Span]) -> Placed
     ensures { (result ≡ placing file.now message.now answer recs.old)
         × (recs.new ≡ after file.now message.now answer recs.old) }

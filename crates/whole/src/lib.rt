@@ -45,7 +45,8 @@ fn list_all_in<const N: usize>(
     Ok(listed)
 }
 
-// The whole listing in one call: sign file, message, the lent slice of answers and that of records. A short message takes less of the stack.
+// The whole listing in one call: sign file, message, the lent slice of answers and that of records. For a short message
+// fewer records are cleared.
 pub fn list_all(
     file: &[u8],
     message: &[u8],
