@@ -81,12 +81,7 @@ pub fn placed(file: &[u8], msg: &[u8], number: usize, room: usize, out: &mut [Sp
         Err(r) => return unplaced(Answer::Refused(r)),
     };
     if room < 1400 {
-        return unplaced(Answer::Refused(Refusal {
-            number: 4,
-            start: 0,
-            length: 0,
-            detail: 0,
-        }));
+        return unplaced(Answer::Refused(Refusal::of(4)));
     }
     let call = Call { file, table, msg };
     if msg.len() <= 256 {

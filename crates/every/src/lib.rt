@@ -122,12 +122,7 @@ fn opened(file: &[u8], msg: &[u8], answers: usize, records: usize) -> Result<Sig
 {
     let table = admit::admit(file, msg)?;
     if answers < ANSWERS || records < ROOM {
-        return Err(Refusal {
-            number: 4,
-            start: 0,
-            length: 0,
-            detail: 0,
-        });
+        return Err(Refusal::of(4));
     }
     Ok(table)
 }

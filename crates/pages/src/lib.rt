@@ -76,12 +76,7 @@ fn render_pass(
 fn too_many() -> Refusal
     ensures { result ≡ refusal_of 15 0 0 0 }
 {
-    Refusal {
-        number: 15,
-        start: 0,
-        length: 0,
-        detail: 0,
-    }
+    Refusal::of(15)
 }
 
 // The page whose last pass is done.

@@ -108,12 +108,7 @@ pub fn item_of(at: usize, s: &[u8], long: bool) -> Result<Value, SyntaxError>
 fn refuse(number: u8) -> Reading
     ensures { result ≡ refused number 0 0 }
 {
-    Reading::Refused(Refusal {
-        number,
-        start: 0,
-        length: 0,
-        detail: 0,
-    })
+    Reading::Refused(Refusal::of(number))
 }
 
 // The slice at the offset of a message that was looked at.

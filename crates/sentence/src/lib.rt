@@ -91,12 +91,7 @@ pub fn sentence(r: Refusal, buffer: &mut [u8]) -> Result<u16, Refusal>
     ensures { (result ≡ telling r buffer.old) × (buffer.new ≡ buffer_after r buffer.old) }
 {
     if buffer.len() < 96 {
-        return Err(Refusal {
-            number: 16,
-            start: 0,
-            length: 0,
-            detail: 0,
-        });
+        return Err(Refusal::of(16));
     }
     let mut out = Writer { buffer, len: 0 };
     out.put(b"Refusal ");
