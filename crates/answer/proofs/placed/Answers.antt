@@ -1,4 +1,7 @@
-use Rattle.std.proofs.Common.{refl}
+use Rattle.std.proofs.Common.{refl, ap, ◌∙◌}
+use Rattle.refusal.specs.declared.Refusal.{Refusal}
+use Rattle.layout.specs.declared.Answer.TheVariants.{Refused}
+use Rattle.answer.specs.Answer.{bare}
 use Rattle.answer.proofs.Laws.{call_denied, call_short, call_accepted, call_small, call_listed, placed_as}
 use Rattle.answer.proofs.placed.Goals as goal
 
@@ -8,7 +11,8 @@ returns-in-Err c = placed_as (call_denied c.args.file.now c.args.msg.now c.in-Er
 pub returns-then-room-lt1400 : goal.returns-then-room-lt1400
 returns-then-room-lt1400 c =
     placed_as
-    (call_short c.args.file.now c.args.msg.now c.in-Ok.ensures c.args.number c.args.room c.args.out.now c.if-room-lt1400.true c.unplaced-then-room-lt1400.ensures)
+    (call_short c.args.file.now c.args.msg.now c.in-Ok.ensures c.args.number c.args.room c.args.out.now c.if-room-lt1400.true
+        (c.unplaced-then-room-lt1400.ensures ∙ ap (λ (r : Refusal). bare (Refused r)) c.of.ensures))
 
 pub invariant_of-call-clause-opened : goal.invariant_of-call-clause-opened
 invariant_of-call-clause-opened c = call_accepted c.args.file.now c.args.msg.now c.in-Ok.ensures

@@ -9,7 +9,7 @@ returns-in_err-table c =
 
 pub returns-then-answers-lt-ANSWERS : goal.returns-then-answers-lt-ANSWERS
 returns-then-answers-lt-ANSWERS c =
-    call_short c.args.file.now c.args.msg.now c.args.answers c.args.records c.in_ok-table.ensures c.then-answers-lt-ANSWERS.either
+    rw c.of.ensures (call_short c.args.file.now c.args.msg.now c.args.answers c.args.records c.in_ok-table.ensures c.then-answers-lt-ANSWERS.either)
 
 pub returns : goal.returns
 returns c =
