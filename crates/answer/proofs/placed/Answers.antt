@@ -12,7 +12,7 @@ pub returns-then-room-lt1400 : goal.returns-then-room-lt1400
 returns-then-room-lt1400 c =
     placed_as
     (call_short c.args.file.now c.args.msg.now c.in-Ok.ensures c.args.number c.args.room c.args.out.now c.if-room-lt1400.true
-        (c.unplaced-then-room-lt1400.ensures ∙ ap (λ (r : Refusal). bare (Refused r)) c.of.ensures))
+    (c.unplaced-then-room-lt1400.ensures ∙ ap (λ (r : Refusal). bare (Refused r)) c.of.ensures))
 
 pub invariant_of-call-clause-opened : goal.invariant_of-call-clause-opened
 invariant_of-call-clause-opened c = call_accepted c.args.file.now c.args.msg.now c.in-Ok.ensures
