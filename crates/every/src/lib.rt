@@ -128,7 +128,7 @@ fn opened(file: &[u8], msg: &[u8], answers: usize, records: usize) -> Result<Sig
 }
 
 // All answers before the first refusal, if there is one, for slices of so many answers and records: they stand first in the slices. For a
-// short message fewer rows are cleared.
+// short message fewer rows are cleared. File and message, two rooms and two slices: the call's own parameters, as C has them.
 pub fn gather(
     file: &[u8],
     msg: &[u8],

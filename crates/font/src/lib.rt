@@ -256,6 +256,7 @@ impl<'a, const N: usize> FontWidths<'a, N> {
         let mut w: u32 = 0;
         let mut n: usize = 0;
         let mut at: usize = 0;
+        // A step is a character: how long it is its first byte says. The first one that is missing ends it with the count so far.
         while at < text.len() {
             let c = utf8::code_at(text, at);
             let r = self.with_character(w, n, c.code, spacing);

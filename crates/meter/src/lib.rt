@@ -13,7 +13,7 @@ use font::{FileFont, FontWidths, Looked, Missing};
 use layout::{Entry, Fault};
 use rows::{Gauge, Row};
 
-// The width of a text of the message.
+// The width of a text of the message. That an entry lies in it is asked here and below: an entry knows no message, so that it can't hold this.
 fn part_width(call: &Call, font: &FontWidths<256>, e: Entry, spacing: u16) -> Looked
     requires { EntryIn call.now e × (e.kind ≡ 0) }
     ensures { WidthFound (letters font.now.font) spacing (part_codes call.now.msg.now e) result }

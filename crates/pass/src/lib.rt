@@ -130,6 +130,7 @@ pub fn read_pass(
     let mut p = Reached::start(from, start);
     let mut blank = true;
     let mut held = Held::new();
+    // A step is a slice: where it ends its bytes say.
     let how = loop {
         if p.at == call.msg.len() {
             break How::End;

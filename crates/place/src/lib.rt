@@ -64,7 +64,8 @@ fn trunc(n: u8, x: u16) -> u16
     x / k * k
 }
 
-// Where a span with a before it and b from there on stands in a rectangle: at its start, in the middle, or at its end.
+// Where a span with a before it and b from there on stands in a rectangle: at its start, in the middle, or at its end. The six numbers are
+// of one axis, across or down, and no other function has them together.
 fn stand(just: u8, grid: u8, from: u16, size: u16, a: u64, b: u64) -> u16
     requires { (a + b ≤ size) × (from + size ≤ 4096) }
     ensures { (result ≡ stands_at just grid from size a b) × (result ≤ 4096) }
@@ -148,6 +149,7 @@ impl<'a> Pass<'a> {
         let mut p: usize = 0;
         let mut sum = table[0];
         let mut k = sums::first_of(self.heads, r.line);
+        // Along the line's chain, not by an index.
         while 0 < k {
             let i = self.rows.len() - k;
             let e = &self.rows[i];

@@ -8,7 +8,7 @@ use refusal::Refusal;
 use token::Shape;
 use value::{Place, SyntaxError, Value};
 
-// The slice at the offset and its value, the end of the message, or a refusal.
+// The slice at the offset and its value, the end of the message, or a refusal: the document's three, which C has as numbers.
 #[derive(Clone, Copy)]
 pub enum Reading {
     Slice(Place, Value),

@@ -8,7 +8,7 @@ ghost use Rattle.records.specs.Config.{config_of, size_ok, just_ok, tags_ok, con
 // The tags that a sign may support: fo, hc, jl, jp, nl, np, pt, sc and tr, bits 3, 5, 6, 7, 10 to 13 and 27.
 const MASK: u32 = 134233320;
 
-// A record's kind, where its body starts, and where it ends.
+// A record's kind, the file's number, of which each reader takes its own; where its body starts, and where it ends.
 #[derive(Clone, Copy)]
 pub struct Record {
     pub kind: u16,
@@ -17,7 +17,7 @@ pub struct Record {
 }
 
 // The values of kind 1, and the options, which are records of their own: capitals may stand in for small letters
-// (kind 4), page times may be long (kind 5).
+// (kind 4), page times may be long (kind 5). Justifications are numbers, as layout's RenderState has them.
 #[derive(Clone, Copy)]
 pub struct Config {
     pub width: u16,

@@ -22,7 +22,8 @@ impl Line<'_> {
     }
 }
 
-// A place in the input, of which a lent buffer holds a part: the lines kept from start on, what comes from at on, up to end.
+// A place in the input, of which a lent buffer holds a part: the lines kept from start on, what comes from at on, up to end. No ArrayVec:
+// a read can't go into one.
 #[derive(Drop)]
 pub struct Input<'a, R> {
     source: R,
@@ -71,7 +72,8 @@ impl<'a, R: Read> Input<'a, R> {
         0 < more
     }
 
-    // Reads until the next line is there: where it ends. None where the input ends before, or the buffer is full.
+    // Reads until the next line is there: where it ends. None where the input ends before, or the buffer is full. No iterator has it: the
+    // buffer is read into between two looks.
     fn line_end(&mut self) -> Option<usize>
         ensures { IfSome result (λ n. (self.new.at ≤ n) × (n < self.new.end)) }
     {

@@ -51,7 +51,8 @@ impl Replay {
         Ok(())
     }
 
-    // Nothing says that the input ends: the turns are counted up to a number that no run uses up.
+    // Nothing says that the input ends: the turns are counted up to a number that no run uses up. The three replays each have this loop
+    // over a turn of their own: a trait for it is no plainer.
     fn run(&mut self, rt: &impl Print, input: &mut Input<impl Read>) -> Result<(), BadStream> {
         for _ in 0..u64::MAX {
             let Some(line) = input.next()? else {

@@ -9,7 +9,7 @@ ghost use Rattle.rows.specs.Rows.{link_at, mark_at, LinkPut, MarkPut};
 use layout::{Entry, Fault, Span};
 
 // An entry of a pass with its measures. kind to code: as in its record. just_page to span: of the state it was read in.
-// spacing: its [sc] value where fixed, else its font's. lead: the line spacing of the [nl] before it.
+// spacing: its [sc] value where fixed, else its font's: one there is in any case. lead: the line spacing of the [nl] before it.
 // height, font_spacing: its font's height and line spacing. fault: refusal 10, 11 or 12.
 #[derive(Clone, Copy)]
 pub struct Row {

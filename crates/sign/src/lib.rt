@@ -20,7 +20,7 @@ pub struct FontEntry {
     pub characters: usize,
 }
 
-// A sign file that is accepted: the first count fonts are its fonts.
+// A sign file that is accepted: the first count fonts are its fonts. No heap, and no ArrayVec, which is not Copy.
 #[derive(Clone, Copy)]
 pub struct SignFile {
     pub config: Config,
@@ -157,6 +157,7 @@ fn read_fonts(file: &[u8], from: usize, config: Config) -> Result<SignFile, Refu
     let mut fonts = [FontEntry::default(); 24];
     let mut count: usize = 0;
     let mut at = from;
+    // A step is a font's records, and a refusal says where they begin: no iterator over the file tells both.
     while at < file.len() {
         let font = font_at(file, at).ok_or(RefusedAt { at })?;
         let k = usize::from(font.number);

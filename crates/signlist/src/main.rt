@@ -16,6 +16,7 @@ fn print_span(rt: &impl Print, s: &Span) {
     );
 }
 
+// The line that multiread prints too: a crate for it would be longer.
 fn print_refusal(rt: &impl Print, r: Refusal) {
     let _ = println!(rt;
         "refused {} {} {} {}",

@@ -112,6 +112,7 @@ pub fn offset_horiz(rows: &[Row], out: &[Span], heads: &[u16; 256], r: &Row) -> 
 {
     let mut o = Sums::default();
     let mut k = first_of(heads, r.line);
+    // Along the line's chain, not by an index.
     while 0 < k {
         let j = rows.len() - k;
         o = o.advance(r, &rows[j]);
@@ -149,6 +150,7 @@ pub fn gather(rows: &[Row], out: &[Span], heads: &[u16; 256], r: &Row, table: &m
 {
     let mut o = Sums::default();
     let mut k = first_of(heads, r.line);
+    // Along the line's chain, not by an index.
     while 0 < k {
         let j = rows.len() - k;
         o = enter(table, r, o, &rows[j]);
