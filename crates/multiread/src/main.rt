@@ -44,13 +44,6 @@ fn print_slice(rt: &impl Print, p: Place, v: Value) {
     let _ = println!(rt);
 }
 
-fn print_refusal(rt: &impl Print, r: Refusal) {
-    let _ = println!(rt;
-        "refused {} {} {} {}",
-        r.number, r.start, r.length, r.detail
-    );
-}
-
 // Prints every slice of a message, or why it is refused as a whole.
 fn print_all(rt: &impl Print, msg: &[u8], long: bool) {
     for at in (Starts { msg, at: 0 }) {
@@ -58,7 +51,7 @@ fn print_all(rt: &impl Print, msg: &[u8], long: bool) {
             Reading::Slice(p, v) => print_slice(rt, p, v),
             Reading::End => break,
             Reading::Refused(r) => {
-                print_refusal(rt, r);
+                signbin::print_refusal(rt, r);
                 if r.number < 5 {
                     break;
                 }

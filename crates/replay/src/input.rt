@@ -118,4 +118,21 @@ impl<'a, R: Read> Input<'a, R> {
             then,
         }))
     }
+
+    // Every line up to the end of the stream, or up to the first at which the turn fails.
+    pub fn each<F: FnMut(&Line) -> Result<(), BadStream>>(
+        &mut self,
+        mut turn: F,
+    ) -> Result<(), BadStream>
+        requires { F.IsAlwaysCallable turn }
+    {
+        // Nothing says that the input ends: the turns are counted up to a number that no run uses up.
+        for _ in 0..u64::MAX {
+            let Some(line) = self.next()? else {
+                break;
+            };
+            turn(&line)?;
+        }
+        Ok(())
+    }
 }

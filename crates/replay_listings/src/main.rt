@@ -7,7 +7,6 @@ use arrayvec::ArrayVec;
 use compare::Check;
 use layout::Span;
 use replay::{BadStream, Input, Kind, Line, Score};
-use std::io::Read;
 
 // The sign file that came last, the case whose answers are read with its message, and how many cases agree and how these end.
 #[derive(Drop)]
@@ -79,18 +78,6 @@ impl Replay {
         Ok(())
     }
 
-    // Nothing says that the input ends: the turns are counted up to a number that no run uses up. The three replays each have this loop
-    // over a turn of their own: a trait for it is no plainer.
-    fn run(&mut self, rt: &impl Print, input: &mut Input<impl Read>) -> Result<(), BadStream> {
-        for _ in 0..u64::MAX {
-            let Some(line) = input.next()? else {
-                break;
-            };
-            self.turn(rt, &line)?;
-        }
-        Ok(())
-    }
-
     // How many agree, and the endings that came.
     fn print(&self, rt: &impl Print) {
         self.score.print(rt, Kind::L);
@@ -117,7 +104,7 @@ fn main(rt: HostRuntime) {
         refusals: [0; 16],
     };
     let mut input = Input::new(rt.stdin(), &mut buf);
-    match replay.run(&rt, &mut input) {
+    match input.each(|line| replay.turn(&rt, line)) {
         Ok(()) => replay.print(&rt),
         Err(bad) => {
             let _ = println!(rt; "{bad}");

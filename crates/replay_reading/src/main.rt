@@ -4,22 +4,20 @@
 mod compare;
 
 use compare::{Bytes, Check, KINDS};
-use replay::{BadStream, Input, Line, Score};
-use std::io::Read;
+use replay::{BadStream, Input, Kind, Line, Score};
 
 // The case whose answer is read, if it is compared, and how many of each kind agree.
 #[derive(Drop)]
 struct Replay {
     check: Option<Check>,
     msg: Bytes,
-    scores: [Score; 4],
+    scores: [(Kind, Score); 4],
 }
 
 impl Replay {
     // Counts a case, and prints the first of its kind that does not agree.
     fn settle(&mut self, rt: &impl Print, check: Check, line: &Line) {
-        let places = KINDS.iter().zip(self.scores.iter_mut());
-        for (kind, score) in places {
+        for (kind, score) in &mut self.scores {
             if *kind == check.kind && score.count(check.agrees) {
                 replay::print_other(rt, check.line, line.case());
             }
@@ -50,18 +48,6 @@ impl Replay {
         }
         Ok(())
     }
-
-    // Nothing says that the input ends: the turns are counted up to a number that no run uses up. The three replays each have this loop
-    // over a turn of their own: a trait for it is no plainer.
-    fn run(&mut self, rt: &impl Print, input: &mut Input<impl Read>) -> Result<(), BadStream> {
-        for _ in 0..u64::MAX {
-            let Some(line) = input.next()? else {
-                break;
-            };
-            self.turn(rt, &line)?;
-        }
-        Ok(())
-    }
 }
 
 fn main(rt: HostRuntime) {
@@ -69,12 +55,12 @@ fn main(rt: HostRuntime) {
     let mut replay = Replay {
         check: None,
         msg: Bytes::new(),
-        scores: [Score::default(); 4],
+        scores: KINDS.map(|kind| (kind, Score::default())),
     };
     let mut input = Input::new(rt.stdin(), &mut buf);
-    match replay.run(&rt, &mut input) {
+    match input.each(|line| replay.turn(&rt, line)) {
         Ok(()) => {
-            for (kind, score) in KINDS.iter().zip(&replay.scores) {
+            for (kind, score) in &replay.scores {
                 score.print(&rt, *kind);
             }
         }

@@ -4,7 +4,6 @@
 use arrayvec::ArrayVec;
 use replay::{BadStream, Input, Kind, Line, Phase, Score};
 use sign::{RefusedAt, SignFile};
-use std::io::Read;
 
 // The case whose answer is read: the number of its line, the next font of its answer, and whether it agrees so far.
 #[derive(Clone, Copy)]
@@ -97,18 +96,6 @@ impl Replay {
         }
         Ok(())
     }
-
-    // Nothing says that the input ends: the turns are counted up to a number that no run uses up. The three replays each have this loop
-    // over a turn of their own: a trait for it is no plainer.
-    fn run(&mut self, rt: &impl Print, input: &mut Input<impl Read>) -> Result<(), BadStream> {
-        for _ in 0..u64::MAX {
-            let Some(line) = input.next()? else {
-                break;
-            };
-            self.turn(rt, &line)?;
-        }
-        Ok(())
-    }
 }
 
 fn main(rt: HostRuntime) {
@@ -119,7 +106,7 @@ fn main(rt: HostRuntime) {
         score: Score::default(),
     };
     let mut input = Input::new(rt.stdin(), &mut buf);
-    match replay.run(&rt, &mut input) {
+    match input.each(|line| replay.turn(&rt, line)) {
         Ok(()) => replay.score.print(&rt, Kind::I),
         Err(bad) => {
             let _ = println!(rt; "{bad}");

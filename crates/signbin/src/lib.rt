@@ -1,8 +1,9 @@
-// The sign file of a program: sign.bin in the current folder.
+// What the programs that take a sign file share: sign.bin in the current folder, and the line of a refusal.
 #![tactic(auto)]
 
 ghost use Rattle.std.specs.Prelude.{◌≤◌, length};
 
+use refusal::Refusal;
 use std::fs;
 use std::io::Read;
 use std::rt::Files;
@@ -26,4 +27,12 @@ pub fn load<'a>(rt: &impl Files, buf: &'a mut [u8]) -> &'a [u8]
         Ok(mut file) => read_full(&mut file, buf),
         Err(_) => &[],
     }
+}
+
+// The line of a refusal: number, start, length and detail. A write that fails is passed over.
+pub fn print_refusal(rt: &impl Print, r: Refusal) {
+    let _ = println!(rt;
+        "refused {} {} {} {}",
+        r.number, r.start, r.length, r.detail
+    );
 }

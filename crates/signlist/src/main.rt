@@ -16,14 +16,6 @@ fn print_span(rt: &impl Print, s: &Span) {
     );
 }
 
-// The line that multiread prints too: a crate for it would be longer.
-fn print_refusal(rt: &impl Print, r: Refusal) {
-    let _ = println!(rt;
-        "refused {} {} {} {}",
-        r.number, r.start, r.length, r.detail
-    );
-}
-
 // An answer, and its records of all.
 fn print_answer(rt: &impl Print, s: &Shown, all: &[Span]) {
     if s.kind != 1 {
@@ -46,7 +38,7 @@ fn print_all(rt: &impl Print, file: &[u8], msg: &[u8]) {
         print_answer(rt, s, &records);
     }
     match walked.refused {
-        Some(r) => print_refusal(rt, r),
+        Some(r) => signbin::print_refusal(rt, r),
         None => {
             let _ = println!(rt; "end {}", walked.answers);
         }
