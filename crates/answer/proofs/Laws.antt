@@ -11,8 +11,7 @@ use lib.ListN.{length}
 use borrow.Author.Tests.{lt-ltb, le-ltb}
 use Rattle.base.specs.Pick.{pick}
 use Rattle.refusal.specs.declared.Refusal.{Refusal}
-use Rattle.records.specs.declared.Config.{Config}
-use Rattle.sign.specs.Sign.{Font, Sign, Accepted, sign_file}
+use Rattle.sign.specs.Sign.{Sign, sign_file}
 use Rattle.admit.specs.Admission.{Admission, admission}
 use Rattle.admit.specs.Handed.{handed}
 use Rattle.sign.specs.declared.SignFile.{SignFile}
@@ -21,7 +20,6 @@ use Rattle.layout.specs.declared.Answer.{Answer}
 use Rattle.layout.specs.declared.Answer.TheVariants.{On, Off, End, Refused}
 use Rattle.layout.specs.Types.{items, Board}
 use Rattle.refusal.specs.Refusals.{refusal}
-use Rattle.layout.specs.Fonts.{meter_of, board_of}
 use Rattle.layout.specs.Listing.{Page, on, off, pages, answer_of, records_of, Result as Told, said, numbered, result_on, result}
 use Rattle.layout.proofs.Room.{result_room}
 use Rattle.layout.specs.declared.Span.{Span}
@@ -29,13 +27,13 @@ use Rattle.rows.specs.declared.Row.{Row}
 use Rattle.rows.specs.Rows.{SpanRoom, spans_of}
 use Rattle.rows.proofs.Laws.{spans_length}
 use Rattle.counts.specs.declared.Placed.{Placed}
-use Rattle.counts.specs.Placing.{fonts_in, capitals_in, chars_looked, with_counts}
+use Rattle.counts.specs.Placing.{chars_looked, with_counts}
 use Rattle.meter.specs.declared.call.Call.{Call}
 use Rattle.meter.specs.Opened.{AcceptedTable}
-use Rattle.meter.specs.Gauges.{meter_in}
 use Rattle.pages.specs.declared.Pages.{Pages}
 use Rattle.pages.specs.declared.PageShown.{PageShown}
 use Rattle.pages.specs.Pages.{board_in, board_of as board_for, Ready, looked_for, first_of, todo, next_told, InMessage, weight, IfShown, Advances, NextRead}
+use Rattle.pages.proofs.Boards.{board_is}
 use Rattle.pages.proofs.Answers.{pages_todo, first_in_law}
 use Rattle.answer.specs.Answer.{written_by, told, bare, on_by, placed_by, count_of, RecordRoom, CountsTold, Numbered, Answered, PlacedAs}
 
@@ -147,10 +145,6 @@ module _ {call : Call} {number : ℕ} {rows₀ : List Row} {out₀ : List Span} 
         })
 
 -- ---- the call
-
-board_is : (file msg : List ℕ) (c : Config) (fs : List Font) → sign_file file ≡ Accepted c fs → board_in file msg c ≡ board_of msg c fs
-unfolding board_of meter_in
-board_is file msg c fs q = ap (λ (x : Sign). record { config = c; meter = meter_of msg (capitals_in x) (fonts_in x) }) q
 
 -- by the answer of `admit`
 module _ (file msg : List ℕ) where

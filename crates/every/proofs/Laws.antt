@@ -18,24 +18,23 @@ use Rattle.base.specs.Pick.{pick}
 use Rattle.refusal.specs.declared.Refusal.{Refusal}
 use Rattle.refusal.specs.Refusals.{refusal}
 use Rattle.records.specs.declared.Config.{Config}
-use Rattle.sign.specs.Sign.{Font, Sign, Accepted, sign_file}
+use Rattle.sign.specs.Sign.{Font}
 use Rattle.admit.specs.Admission.{Admission, denied, admitted, admission}
 use Rattle.admit.specs.Handed.{handed}
 use Rattle.sign.specs.declared.SignFile.{SignFile}
 use Rattle.admit.proofs.Laws.{Opens, admits, denied_is, opens}
 use Rattle.layout.specs.declared.Span.{Span}
 use Rattle.layout.specs.Types.{items, Board}
-use Rattle.layout.specs.Fonts.{meter_of, board_of}
+use Rattle.layout.specs.Fonts.{board_of}
 use Rattle.layout.specs.Listing.{Page, on, off, pages}
 use Rattle.rows.specs.declared.Row.{Row}
 use Rattle.rows.specs.Rows.{SpanRoom, spans_of}
 use Rattle.rows.proofs.Laws.{spans_length}
-use Rattle.counts.specs.Placing.{fonts_in, capitals_in}
 use Rattle.meter.specs.declared.call.Call.{Call}
-use Rattle.meter.specs.Gauges.{meter_in}
 use Rattle.pages.specs.declared.Pages.{Pages}
 use Rattle.pages.specs.declared.PageShown.{PageShown}
-use Rattle.pages.specs.Pages.{board_in, board_of as board_for, first_of, todo, next_told, InMessage, weight, IfShown, Advances, NextAsked, NextRead}
+use Rattle.pages.specs.Pages.{board_of as board_for, first_of, todo, next_told, InMessage, weight, IfShown, Advances, NextAsked, NextRead}
+use Rattle.pages.proofs.Boards.{board_is}
 use Rattle.pages.proofs.Answers.{pages_todo, first_in_law}
 use Rattle.every.specs.declared.Shown.{Shown}
 use Rattle.every.specs.declared.Walked.{Walked}
@@ -268,10 +267,6 @@ module _ {call : Call} {rows₀ : List Row} {shown₀ : List Shown} {out₀ : Li
             })
 
 -- ---- the call
-
-board_is : (file msg : List ℕ) (c : Config) (fs : List Font) → sign_file file ≡ Accepted c fs → board_in file msg c ≡ board_of msg c fs
-unfolding board_of meter_in
-board_is file msg c fs q = ap (λ (x : Sign). record { config = c; meter = meter_of msg (capitals_in x) (fonts_in x) }) q
 
 -- by the answer of `admit`
 module _ (file msg : List ℕ) (a k : ℕ) where

@@ -1,3 +1,4 @@
 pub mod Placing
 pub mod Laws
 pub mod Answers
+pub mod Boards

@@ -34,8 +34,7 @@ pub struct Pages {
     pub page_state: PageState,
 }
 
-// An answer: on or off, its duration, the count of its records and that of the characters looked up, which are 0 if it is off. One struct for
-// both: a caller adds up the counts of either alike.
+// An answer: on or off, its duration, the count of its records and that of the characters looked up, which are 0 if it is off.
 #[derive(Clone, Copy)]
 pub struct PageShown {
     pub on: bool,

@@ -1,5 +1,5 @@
 -- Document 02, A1: what holds of every sentence. "From the sentence alone all four can be recovered."
-use Rattle.std.specs.Prelude.{ℕ, ◌+◌, ◌≤◌, ◌<◌, ◌≡◌, Bool, true, false, not, ◌&&◌, List, [], ◌∷◌, leb, eqb, length, drop, Option, Some, None, option_and_then}
+use Rattle.std.specs.Prelude.{ℕ, ◌+◌, ◌≤◌, ◌<◌, ◌≡◌, Bool, true, false, not, ◌&&◌, List, [], ◌∷◌, leb, eqb, length, drop, Option, Some, option_and_then}
 use Rattle.base.specs.Pick.{pick}
 use Rattle.number.specs.Number.{read_number}
 use Rattle.refusal.specs.declared.Refusal.{Refusal}
