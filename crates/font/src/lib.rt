@@ -13,6 +13,7 @@ ghost use Rattle.font.specs.Grown.{OneMore};
 
 use records::Record;
 use sign::{FontEntry, SignFile};
+use utf8::Codes;
 
 // A character's width, and where its bitmap starts in the file.
 #[derive(Clone, Copy)]
@@ -255,17 +256,13 @@ impl<'a, const N: usize> FontWidths<'a, N> {
     {
         let mut w: u32 = 0;
         let mut n: usize = 0;
-        let mut at: usize = 0;
-        // A step is a character: how long it is its first byte says. The first one that is missing ends it with the count so far.
-        while at < text.len() {
-            let c = utf8::code_at(text, at);
-            let r = self.with_character(w, n, c.code, spacing);
+        for code in Codes(text) {
+            let r = self.with_character(w, n, code, spacing);
             let Ok(v) = r.measure else {
                 return r;
             };
             w = v;
             n = r.count;
-            at += c.len;
         }
         Looked {
             measure: Ok(w),
