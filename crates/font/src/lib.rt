@@ -22,15 +22,7 @@ pub struct Found {
     pub bitmap: usize,
 }
 
-// What a character's record says, and where its bitmap starts.
-#[derive(Clone, Copy)]
-struct Letter {
-    number: u16,
-    width: u8,
-    bitmap: usize,
-}
-
-// A font's characters, in the records from an offset on: at most so many are left.
+// A font's characters with their numbers, in the records from an offset on: at most so many are left.
 #[derive(Clone, Copy)]
 struct Characters<'a> {
     file: &'a [u8],
@@ -80,13 +72,13 @@ pub fn font_numbered(table: SignFile, number: u8) -> Option<FontEntry>
 }
 
 impl Iterator for Characters<'_> {
-    type Item = Letter;
+    type Item = (u16, Found);
 
     ghost next_gives = { YieldsFirst left_of };
 
     ghost remaining = { item_count left_of };
 
-    fn next(&mut self) -> Option<Letter> {
+    fn next(&mut self) -> Option<(u16, Found)> {
         if self.left == 0 {
             return None;
         }
@@ -97,11 +89,11 @@ impl Iterator for Characters<'_> {
         let body = &self.file[start..end];
         self.at = end;
         self.left -= 1;
-        Some(Letter {
-            number: records::le16(body, 0),
+        let found = Found {
             width: base::byte_at(body, 2),
             bitmap: start + 3,
-        })
+        };
+        Some((records::le16(body, 0), found))
     }
 }
 
@@ -110,8 +102,8 @@ impl Iterator for Characters<'_> {
 fn fill(table: &mut [Option<u8>], code: usize, width: Option<u8>)
     ensures { table.new ≡ filled table.old code width }
 {
-    if code < table.len() {
-        table[code] = table[code].or(width);
+    if code < table.len() && table[code].is_none() {
+        table[code] = width;
     }
 }
 
@@ -148,11 +140,10 @@ impl<'a> FileFont<'a> {
                 bitmap: 0,
             });
         }
-        let ch = self.characters().find(|ch| u32::from(ch.number) == code)?;
-        Some(Found {
-            width: ch.width,
-            bitmap: ch.bitmap,
-        })
+        let (_, found) = self
+            .characters()
+            .find(|(number, _)| u32::from(*number) == code)?;
+        Some(found)
     }
 
     // What stands in for a code point that the font does not define: for a to z the capital, if the file lets it.
@@ -172,10 +163,7 @@ impl<'a> FileFont<'a> {
     fn character(&self, code: u32) -> Option<Found>
         ensures { result ≡ character_in code (letters self.now) }
     {
-        match self.own_character(code) {
-            Some(found) => Some(found),
-            None => self.stand_in(code),
-        }
+        self.own_character(code).or(self.stand_in(code))
     }
 
     // Fills a table with the widths of the font's own characters.
@@ -184,8 +172,8 @@ impl<'a> FileFont<'a> {
         ensures { Widths (own_letters self.now) table.new }
     {
         fill(table, 0, Some(0));
-        for ch in self.characters() {
-            fill(table, usize::from(ch.number), Some(ch.width));
+        for (number, found) in self.characters() {
+            fill(table, usize::from(number), Some(found.width));
         }
     }
 
