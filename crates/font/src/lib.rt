@@ -38,7 +38,8 @@ pub struct FileFont<'a> {
     pub capitals: bool,
 }
 
-// A font with the widths of its characters by their codes, none for a code that it lacks.
+// A font with the widths of its characters by their codes, none for a code that it lacks: an array, since there is no heap. It goes by
+// reference, for its size.
 #[derive(Clone, Copy)]
 pub struct FontWidths<'a, const N: usize> {
     pub font: FileFont<'a>,
@@ -158,7 +159,7 @@ impl<'a> FileFont<'a> {
         }
     }
 
-    // The character found for a code point.
+    // The character found for a code point. The stand-in is looked for only from a to z, so that it need not wait.
     #[tactic(auto, using(crate::proofs::StandIns::letters_found))]
     fn character(&self, code: u32) -> Option<Found>
         ensures { result ≡ character_in code (letters self.now) }
@@ -211,15 +212,14 @@ impl<'a, const N: usize> FontWidths<'a, N> {
         FontWidths { font, widths }
     }
 
-    // A character's width; the table has those of the codes below its length.
+    // A character's width; the table has those of the codes below its length. A usize has no From<u32>: the cast loses nothing.
     fn width_of(&self, code: u32) -> Option<u8>
         ensures { result ≡ width_of (character_in code (letters self.now.font)) }
     {
-        let k = code as usize;
-        if k < N {
-            return self.widths[k];
+        match self.widths.get(code as usize) {
+            Some(width) => *width,
+            None => self.font.character(code).map(|found| found.width),
         }
-        self.font.character(code).map(|found| found.width)
     }
 
     // A width with one character more, or that character's code if the font does not define it; this looks it up once, and counts it.
