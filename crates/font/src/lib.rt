@@ -159,7 +159,8 @@ impl<'a> FileFont<'a> {
         }
     }
 
-    // The character found for a code point. The stand-in is looked for only from a to z, so that it need not wait.
+    // The character found for a code point. The stand-in is looked for at once, but only from a to z; tried `or_else`: of a closure that holds
+    // self the check says nothing, so that the proof did not close.
     #[tactic(auto, using(crate::proofs::StandIns::letters_found))]
     fn character(&self, code: u32) -> Option<Found>
         ensures { result ≡ character_in code (letters self.now) }
