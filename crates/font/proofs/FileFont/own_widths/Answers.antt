@@ -6,4 +6,5 @@ loop-number-init c = rw (c.fill.ensures, c.into_iter-number-iterator.ensures.int
 
 pub loop-number-preserved : goal.loop-number-preserved
 loop-number-preserved c =
-    filling_more _ (c.in-Some.number, c.in-Some.found) _ c.loop-number.table _ _ (rw c.in-Some.ensures.steps at c.loop-number.invariant) c.from.ensures c.fill-in-loop-number.ensures
+    filling_more _ (c.in-Some.number, c.in-Some.found) _ c.loop-number.table _ _ (rw c.in-Some.ensures.steps at c.loop-number.invariant)
+    c.from.ensures c.fill-in-loop-number.ensures
