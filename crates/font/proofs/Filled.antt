@@ -14,7 +14,7 @@ use Rattle.base.specs.Pick.{pick}
 use Rattle.sign.specs.Sign.{Character}
 use Rattle.font.specs.Character.{lookup, character_in, letter_of}
 use Rattle.font.specs.Widths.{width_of, filled, Unfilled, Widths}
-use Rattle.font.specs.declared.Letter.{Letter}
+use Rattle.font.specs.declared.Found.{Found}
 
 -- a table with one width more, at each code
 module _ (table : List (Option ℕ)) (k : ℕ) (v : Option ℕ) where
@@ -44,9 +44,9 @@ or_none (Some x) = refl
 or_none None = refl
 
 -- the width at a code, of the first letter with it
-abbrev among : ℕ → List Letter → Option ℕ
+abbrev among : ℕ → List (ℕ × Found) → Option ℕ
 among code [] = None
-among code (l ∷ ls) = pick (eqb l.number code) (Some l.width) (among code ls)
+among code (l ∷ ls) = pick (eqb l.0 code) (Some l.1.width) (among code ls)
 
 among_is : (code : ℕ) (chs : List Character) → among code (map letter_of chs) ≡ width_of (lookup code chs)
 unfolding lookup
@@ -60,7 +60,7 @@ among_is code (ch ∷ chs) = go (eqb ch.number code) (among_is code chs)
     go false e = e
 
 -- of the characters `all` of a font, the letters ls are still to be put in
-pub record Filling (all : List Character) (ls : List Letter) (table : List (Option ℕ)) : Type 0 where
+pub record Filling (all : List Character) (ls : List (ℕ × Found)) (table : List (Option ℕ)) : Type 0 where
   pub at_code : (c : ℕ) → c < length table → option_or (get_or table c None) (among c ls) ≡ width_of (character_in c all)
 
 module _ (all : List Character) where
@@ -75,15 +75,15 @@ module _ (all : List Character) where
           let n : suc c ≡ 0 → ⊥ = λ e. absurd (omega arith) in
           rw (filled_other table 0 (Some 0) (suc c) n, z (suc c), ne_eqb (suc c) 0 n) (among_is (suc c) all)
 
-  pub filling_more : (l : Letter) (ls : List Letter) (table next : List (Option ℕ)) (k : ℕ) → Filling all (l ∷ ls) table → k ≡ l.number
-      → next ≡ filled table k (Some l.width) → Filling all ls next
-  filling_more l ls table next k g d e = record { at_code = λ c h. rw e (at c (rw (e, filled_length table k (Some l.width)) at h)) }
+  pub filling_more : (l : ℕ × Found) (ls : List (ℕ × Found)) (table next : List (Option ℕ)) (k : ℕ) → Filling all (l ∷ ls) table → k ≡ l.0
+      → next ≡ filled table k (Some l.1.width) → Filling all ls next
+  filling_more l ls table next k g d e = record { at_code = λ c h. rw e (at c (rw (e, filled_length table k (Some l.1.width)) at h)) }
     where
-      at : (c : ℕ) → c < length table → option_or (get_or (filled table k (Some l.width)) c None) (among c ls) ≡ width_of (character_in c all)
-      at c h = rw (filled_at table k (Some l.width) c h) (go (eqb k c) (get_or table c None) (rw (← d) at (g.at_code c h)))
+      at : (c : ℕ) → c < length table → option_or (get_or (filled table k (Some l.1.width)) c None) (among c ls) ≡ width_of (character_in c all)
+      at c h = rw (filled_at table k (Some l.1.width) c h) (go (eqb k c) (get_or table c None) (rw (← d) at (g.at_code c h)))
         where
-          go : (t : Bool) (x : Option ℕ) → option_or x (pick t (Some l.width) (among c ls)) ≡ width_of (character_in c all)
-              → option_or (pick t (option_or x (Some l.width)) x) (among c ls) ≡ width_of (character_in c all)
+          go : (t : Bool) (x : Option ℕ) → option_or x (pick t (Some l.1.width) (among c ls)) ≡ width_of (character_in c all)
+              → option_or (pick t (option_or x (Some l.1.width)) x) (among c ls) ≡ width_of (character_in c all)
           go true None p = p
           go true (Some w) p = p
           go false x p = p

@@ -22,7 +22,6 @@ use Rattle.sign.specs.Accepted.{Each, each_none, each_more, GoodCharacter, GoodF
 use Rattle.font.specs.Character.{found_of, lookup, character_in, characters_at, letter_of, left_of}
 use Rattle.font.specs.declared.Characters.{Characters}
 use Rattle.font.specs.declared.Found.{Found}
-use Rattle.font.specs.declared.Letter.{Letter}
 
 -- what a reader of characters has left, by the record at its place
 module _ (r : Characters) where
@@ -50,7 +49,7 @@ module _ (r : Characters) where
     left_other k = none (rw (next, ne_eqb h.kind 3 k))
 
     pub left_more : h.kind ≡ 3 → (r.left ≡ 0 → ⊥) → (x y : ℕ) → x ≡ little_at 2 0 body → y ≡ get_or body 2 0
-        → left_of r ≡ record { number = x; width = y; bitmap = h.start + 3 } ∷ left_of (record { file = r.file; at = h.end; left = r.left - 1 })
+        → left_of r ≡ (x, record { width = y; bitmap = h.start + 3 }) ∷ left_of (record { file = r.file; at = h.end; left = r.left - 1 })
     unfolding characters_of
     left_more k n x y e f =
         let some : r.left ≡ suc (r.left - 1) = omega arith in
@@ -58,20 +57,17 @@ module _ (r : Characters) where
         ap (λ (n : ℕ). map letter_of (take n (characters_of (pieces_at r.file.now r.at)))) some ∙ rw (next, eq-eqb h.kind 3 k, e, f, to)
 
 -- a character is looked up as it is found among the letters
-abbrev pub letter_found : Letter → Found
-letter_found l = record { width = l.width; bitmap = l.bitmap }
-
 pub lookup_is : (code : ℕ) (chs : List Character)
-    → lookup code chs ≡ option_map letter_found (find (λ (l : Letter). eqb l.number code) (map letter_of chs))
+    → lookup code chs ≡ option_map (λ (l : ℕ × Found). l.1) (find (λ (l : ℕ × Found). eqb l.0 code) (map letter_of chs))
 unfolding lookup
 lookup_is code [] = refl
 lookup_is code (ch ∷ chs) = go (eqb ch.number code) (lookup_is code chs)
   where
-    found : Option Letter
-    found = find (λ (l : Letter). eqb l.number code) (map letter_of chs)
+    found : Option (ℕ × Found)
+    found = find (λ (l : ℕ × Found). eqb l.0 code) (map letter_of chs)
 
-    go : (t : Bool) → lookup code chs ≡ option_map letter_found found
-        → pick t (Some (found_of ch)) (lookup code chs) ≡ option_map letter_found (cond t (Some (letter_of ch)) found)
+    go : (t : Bool) → lookup code chs ≡ option_map (λ (l : ℕ × Found). l.1) found
+        → pick t (Some (found_of ch)) (lookup code chs) ≡ option_map (λ (l : ℕ × Found). l.1) (cond t (Some (letter_of ch)) found)
     go true e = refl
     go false e = e
 
@@ -82,12 +78,12 @@ module _ (code : ℕ) (chs : List Character) where
   code_zero e = rw (eq-eqb code 0 e)
 
   -- s is what is found among the letters
-  module _ (n : code ≡ 0 → ⊥) (s : Option Letter) (e : option_map (λ x. x) s ≡ find (λ (l : Letter). eqb l.number code) (map letter_of chs)) where
+  module _ (n : code ≡ 0 → ⊥) (s : Option (ℕ × Found)) (e : option_map (λ x. x) s ≡ find (λ (l : ℕ × Found). eqb l.0 code) (map letter_of chs)) where
     pub code_none : s ≡ None → None ≡ character_in code chs
     unfolding character_in
     code_none q = rw (ne_eqb code 0 n, lookup_is code chs, ← e, q)
 
-    pub code_some : (l : Letter) → s ≡ Some l → Some (record { width = l.width; bitmap = l.bitmap }) ≡ character_in code chs
+    pub code_some : (l : ℕ × Found) → s ≡ Some l → Some l.1 ≡ character_in code chs
     unfolding character_in
     code_some l q = rw (ne_eqb code 0 n, lookup_is code chs, ← e, q)
 

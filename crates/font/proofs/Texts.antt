@@ -1,17 +1,16 @@
 -- The ways on and out of the loop over a text.
 use Prim.Native.Nat.{ℕ, suc, ◌+◌, ◌*◌, ◌≤◌, ◌<◌, min}
 use mathlib.Core.Path.{◌≡◌, refl, sym, ◌∙◌, ap}
-use mathlib.Core.List.{List}
+use mathlib.Core.List.{List, [], ◌∷◌}
 use mathlib.Core.Bool.{Bool, true, false}
 use native.Mathlib.Nat.{zero-add}
 use native.Mathlib.Omega.{arith}
 use lib.Dec.{ltb}
-use lib.ListN.{length, take, drop}
+use lib.ListN.{length, take}
 use Rattle.std.proofs.lemmas.List.{take_min}
 use Rattle.base.specs.Pick.{pick}
-use Rattle.utf8.specs.Utf8.{codes, code_at}
-use Rattle.utf8.specs.declared.Code.{Code}
-use Rattle.utf8.proofs.Laws.{codes_next, codes_end, len_is}
+use Rattle.utf8.specs.Utf8.{codes}
+use Rattle.utf8.proofs.Laws.{codes_len}
 use Rattle.std.specs.Prelude.{Option, Some, None, Ok, Err}
 use Rattle.sign.specs.Sign.{Character}
 use Rattle.font.specs.Character.{character_in}
@@ -57,16 +56,16 @@ module _ (chs : List Character) (w n spacing code : ℕ) where
         grown = rw d (widened_le w spacing x k l);
       }
 
--- `short_width`: the text from a place on, after a width so far, is as wide as the whole; n characters were looked up
-pub record Measuring (chs : List Character) (spacing : ℕ) (text : List ℕ) (w n at : ℕ) : Type 0 where
-  pub small : w ≤ 65790 * at
-  pub few : n ≤ at
-  pub same : width_after chs spacing w (codes (drop at text)) ≡ text_width chs spacing (codes text)
-  pub counted : n + looked_up chs (codes (drop at text)) ≡ looked_up chs (codes text)
+-- `short_width`: the codes that are left, after a width so far, are as wide as all; n characters were looked up
+pub record Measuring (chs : List Character) (spacing : ℕ) (cs : List ℕ) (w n : ℕ) (left : List ℕ) : Type 0 where
+  pub small : w ≤ 65790 * n
+  pub few : n + length left ≤ 65000
+  pub same : width_after chs spacing w left ≡ text_width chs spacing cs
+  pub counted : n + looked_up chs left ≡ looked_up chs cs
 
-pub width_start : (chs : List Character) (spacing : ℕ) (text : List ℕ) → Measuring chs spacing text 0 0 0
+pub width_start : (chs : List Character) (spacing : ℕ) (text : List ℕ) → length text ≤ 65000 → Measuring chs spacing (codes text) 0 0 (codes text)
 unfolding text_width
-width_start chs spacing text = record { small = omega arith; few = omega arith; same = refl; counted = zero-add _ }
+width_start chs spacing text h = record { small = omega arith; few = omega (arith, codes_len text); same = refl; counted = zero-add _ }
 
 -- what a character was found to be, by the measure of it alone
 found_none : (f : Option Found) (code : ℕ) (x : Missing) (g : ℕ → ℕ) → with_width f code (λ more. Ok (g more)) ≡ Err x → f ≡ None
@@ -85,66 +84,53 @@ found_some None code v g e = cc
 pub looked_is : (r : Looked) (m : Measure) (n : ℕ) → r.measure ≡ m → r.count ≡ n → r ≡ record { measure = m; count = n }
 looked_is r m n p q = rw (← p, ← q)
 
-module _ (chs : List Character) (spacing : ℕ) (text : List ℕ) (w n at : ℕ) (so : Measuring chs spacing text w n at) where
-  pub width_end : length text ≤ at → record { measure = Ok w; count = n } ≡ measure_of chs spacing (codes text)
+module _ (chs : List Character) (spacing : ℕ) (cs : List ℕ) (w n : ℕ) where
+  pub width_end : Measuring chs spacing cs w n [] → record { measure = Ok w; count = n } ≡ measure_of chs spacing cs
   unfolding width_after looked_up
-  width_end h =
-      let a : Ok w ≡ text_width chs spacing (codes text) = rw (codes_end text at h) at so.same in
-      let b : n + 0 ≡ looked_up chs (codes text) = rw (codes_end text at h) at so.counted in
-      looked_is (record { measure = Ok w; count = n }) (text_width chs spacing (codes text)) (looked_up chs (codes text)) a (omega (arith, b))
+  width_end so = looked_is (record { measure = Ok w; count = n }) (text_width chs spacing cs) (looked_up chs cs) so.same (omega (arith, so.counted))
 
-  module _ (h : at < length text) where
-    pub width_room : length text ≤ 65000 → w ≤ 65790 * 65000
-    width_room k = omega (arith, so.small)
+  -- r is the answer of `with_character`
+  module _ (code : ℕ) (later : List ℕ) (so : Measuring chs spacing cs w n (code ∷ later)) (r : Looked) (q : OneMore chs spacing w n code r) where
+    abbrev found : Option Found
+    found = character_in code chs
 
-    pub count_room : length text ≤ 65000 → n ≤ 65000
-    count_room k = omega (arith, so.few)
+    here : with_width found code (λ more. width_after chs spacing (widened w spacing more) later) ≡ text_width chs spacing cs
+    unfolding width_after
+    here = so.same
 
-    -- r is the answer of `with_character`
-    module _ (c : Code) (e : c ≡ code_at text at) (r : Looked) (q : OneMore chs spacing w n c.code r) where
-      abbrev found : Option Found
-      found = character_in c.code chs
+    here_count : n + suc (looked_on found (looked_up chs later)) ≡ looked_up chs cs
+    unfolding looked_up
+    here_count = so.counted
 
-      abbrev later : List ℕ
-      later = codes (drop (at + c.len) text)
+    one : with_width found code (λ more. Ok (widened w spacing more)) ≡ r.measure
+    unfolding width_after
+    one = sym q.is
 
-      here : with_width found c.code (λ more. width_after chs spacing (widened w spacing more) later) ≡ text_width chs spacing (codes text)
-      unfolding width_after
-      here = rw (codes_next text at c e h) at so.same
+    pub width_missing : (x : Missing) → r.measure ≡ Err x → r ≡ measure_of chs spacing cs
+    width_missing x z =
+        let d : found ≡ None = found_none found code x (widened w spacing) (one ∙ z) in
+        let a : Err (record { code = code }) ≡ r.measure = rw d at one in
+        let b : Err (record { code = code }) ≡ text_width chs spacing cs = rw d at here in
+        let k : n + 1 ≡ looked_up chs cs = rw d at here_count in
+        looked_is r (text_width chs spacing cs) (looked_up chs cs) (sym a ∙ b) (q.one ∙ k)
 
-      here_count : n + suc (looked_on found (looked_up chs later)) ≡ looked_up chs (codes text)
-      unfolding looked_up
-      here_count = rw (codes_next text at c e h) at so.counted
+    -- the width is at most 65,790 for each character
+    width_fits : (v : ℕ) → r.measure ≡ Ok v → v ≤ 65790 * r.count
+    width_fits v z =
+        let k : v ≤ w + 65790 = rw z at q.grown in
+        omega (arith, k, so.small, q.one)
 
-      one : with_width found c.code (λ more. Ok (widened w spacing more)) ≡ r.measure
-      unfolding width_after
-      one = sym q.is
-
-      pub width_missing : (x : Missing) → r.measure ≡ Err x → r ≡ measure_of chs spacing (codes text)
-      width_missing x z =
-          let d : found ≡ None = found_none found c.code x (widened w spacing) (one ∙ z) in
-          let a : Err (record { code = c.code }) ≡ r.measure = rw d at one in
-          let b : Err (record { code = c.code }) ≡ text_width chs spacing (codes text) = rw d at here in
-          let k : n + 1 ≡ looked_up chs (codes text) = rw d at here_count in
-          looked_is r (text_width chs spacing (codes text)) (looked_up chs (codes text)) (sym a ∙ b) (q.one ∙ k)
-
-      -- the width is at most 65,790 for each byte
-      width_fits : (v : ℕ) → r.measure ≡ Ok v → v ≤ 65790 * (at + c.len)
-      width_fits v z =
-          let k : v ≤ w + 65790 = rw z at q.grown in
-          omega (arith, k, so.small, len_is text at c e)
-
-      pub width_on : (v : ℕ) → r.measure ≡ Ok v → Measuring chs spacing text v r.count (at + c.len)
-      width_on v z =
-          let d : Wide found (widened w spacing) v = found_some found c.code v (widened w spacing) (one ∙ z) in
-          let a : width_after chs spacing (widened w spacing d.found.width) later ≡ text_width chs spacing (codes text) = rw d.is at here in
-          let b : n + suc (looked_up chs later) ≡ looked_up chs (codes text) = rw d.is at here_count in
-          record {
-            small = width_fits v z;
-            few = omega (arith, q.one, so.few, len_is text at c e);
-            same = rw d.width at a;
-            counted = omega (arith, q.one, b);
-          }
+    pub width_on : (v : ℕ) → r.measure ≡ Ok v → Measuring chs spacing cs v r.count later
+    width_on v z =
+        let d : Wide found (widened w spacing) v = found_some found code v (widened w spacing) (one ∙ z) in
+        let a : width_after chs spacing (widened w spacing d.found.width) later ≡ text_width chs spacing cs = rw d.is at here in
+        let b : n + suc (looked_up chs later) ≡ looked_up chs cs = rw d.is at here_count in
+        record {
+          small = width_fits v z;
+          few = omega (arith, q.one, so.few);
+          same = rw d.width at a;
+          counted = omega (arith, q.one, b);
+        }
 
 -- `text_width`: n is where the text is cut
 pub first_is : (n : ℕ) (text : List ℕ) → n ≡ min (length text) 65000 → take n text ≡ take 65000 text

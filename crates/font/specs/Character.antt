@@ -8,7 +8,6 @@ use Rattle.sign.specs.declared.FontEntry.{FontEntry}
 use Rattle.font.specs.declared.Found.{Found}
 use Rattle.font.specs.declared.Characters.{Characters}
 use Rattle.font.specs.declared.FileFont.{FileFont}
-use Rattle.font.specs.declared.Letter.{Letter}
 
 -- a character's width, and where its bitmap starts
 abbrev pub found_of : Character → Found
@@ -70,10 +69,10 @@ own_letters f = characters_at f.file.now f.entry
 abbrev pub letters : FileFont → List Character
 letters f = letters_at f.file.now f.entry f.capitals
 
--- what a character's record says
-abbrev pub letter_of : Character → Letter
-letter_of ch = record { number = ch.number; width = ch.width; bitmap = ch.bitmap }
+-- what a character's record says: its number, and what is found by it
+abbrev pub letter_of : Character → ℕ × Found
+letter_of ch = (ch.number, found_of ch)
 
 -- what the reader of a font's characters has left
-abbrev pub left_of : Characters → List Letter
+abbrev pub left_of : Characters → List (ℕ × Found)
 left_of r = map letter_of (take r.left (characters_of (pieces_at r.file.now r.at)))

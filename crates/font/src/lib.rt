@@ -13,6 +13,7 @@ ghost use Rattle.font.specs.Grown.{OneMore};
 
 use records::Record;
 use sign::{FontEntry, SignFile};
+use utf8::Codes;
 
 // A character's width, and where its bitmap starts in the file.
 #[derive(Clone, Copy)]
@@ -21,15 +22,7 @@ pub struct Found {
     pub bitmap: usize,
 }
 
-// What a character's record says, and where its bitmap starts.
-#[derive(Clone, Copy)]
-struct Letter {
-    number: u16,
-    width: u8,
-    bitmap: usize,
-}
-
-// A font's characters, in the records from an offset on: at most so many are left.
+// A font's characters with their numbers, in the records from an offset on: at most so many are left.
 #[derive(Clone, Copy)]
 struct Characters<'a> {
     file: &'a [u8],
@@ -45,7 +38,8 @@ pub struct FileFont<'a> {
     pub capitals: bool,
 }
 
-// A font with the widths of its characters by their codes, none for a code that it lacks.
+// A font with the widths of its characters by their codes, none for a code that it lacks: an array, since there is no heap. It goes by
+// reference, for its size.
 #[derive(Clone, Copy)]
 pub struct FontWidths<'a, const N: usize> {
     pub font: FileFont<'a>,
@@ -79,13 +73,13 @@ pub fn font_numbered(table: SignFile, number: u8) -> Option<FontEntry>
 }
 
 impl Iterator for Characters<'_> {
-    type Item = Letter;
+    type Item = (u16, Found);
 
     ghost next_gives = { YieldsFirst left_of };
 
     ghost remaining = { item_count left_of };
 
-    fn next(&mut self) -> Option<Letter> {
+    fn next(&mut self) -> Option<(u16, Found)> {
         if self.left == 0 {
             return None;
         }
@@ -96,11 +90,11 @@ impl Iterator for Characters<'_> {
         let body = &self.file[start..end];
         self.at = end;
         self.left -= 1;
-        Some(Letter {
-            number: records::le16(body, 0),
+        let found = Found {
             width: base::byte_at(body, 2),
             bitmap: start + 3,
-        })
+        };
+        Some((records::le16(body, 0), found))
     }
 }
 
@@ -109,8 +103,8 @@ impl Iterator for Characters<'_> {
 fn fill(table: &mut [Option<u8>], code: usize, width: Option<u8>)
     ensures { table.new ≡ filled table.old code width }
 {
-    if code < table.len() {
-        table[code] = table[code].or(width);
+    if code < table.len() && table[code].is_none() {
+        table[code] = width;
     }
 }
 
@@ -147,11 +141,10 @@ impl<'a> FileFont<'a> {
                 bitmap: 0,
             });
         }
-        let ch = self.characters().find(|ch| u32::from(ch.number) == code)?;
-        Some(Found {
-            width: ch.width,
-            bitmap: ch.bitmap,
-        })
+        let (_, found) = self
+            .characters()
+            .find(|(number, _)| u32::from(*number) == code)?;
+        Some(found)
     }
 
     // What stands in for a code point that the font does not define: for a to z the capital, if the file lets it.
@@ -166,15 +159,13 @@ impl<'a> FileFont<'a> {
         }
     }
 
-    // The character found for a code point.
+    // The character found for a code point. The stand-in is looked for at once, but only from a to z; tried `or_else`: of a closure that holds
+    // self the check says nothing, so that the proof did not close.
     #[tactic(auto, using(crate::proofs::StandIns::letters_found))]
     fn character(&self, code: u32) -> Option<Found>
         ensures { result ≡ character_in code (letters self.now) }
     {
-        match self.own_character(code) {
-            Some(found) => Some(found),
-            None => self.stand_in(code),
-        }
+        self.own_character(code).or(self.stand_in(code))
     }
 
     // Fills a table with the widths of the font's own characters.
@@ -183,8 +174,8 @@ impl<'a> FileFont<'a> {
         ensures { Widths (own_letters self.now) table.new }
     {
         fill(table, 0, Some(0));
-        for ch in self.characters() {
-            fill(table, usize::from(ch.number), Some(ch.width));
+        for (number, found) in self.characters() {
+            fill(table, usize::from(number), Some(found.width));
         }
     }
 
@@ -222,15 +213,14 @@ impl<'a, const N: usize> FontWidths<'a, N> {
         FontWidths { font, widths }
     }
 
-    // A character's width; the table has those of the codes below its length.
+    // A character's width; the table has those of the codes below its length. A usize has no From<u32>: the cast loses nothing.
     fn width_of(&self, code: u32) -> Option<u8>
         ensures { result ≡ width_of (character_in code (letters self.now.font)) }
     {
-        let k = code as usize;
-        if k < N {
-            return self.widths[k];
+        match self.widths.get(code as usize) {
+            Some(width) => *width,
+            None => self.font.character(code).map(|found| found.width),
         }
-        self.font.character(code).map(|found| found.width)
     }
 
     // A width with one character more, or that character's code if the font does not define it; this looks it up once, and counts it.
@@ -255,17 +245,13 @@ impl<'a, const N: usize> FontWidths<'a, N> {
     {
         let mut w: u32 = 0;
         let mut n: usize = 0;
-        let mut at: usize = 0;
-        // A step is a character: how long it is its first byte says. The first one that is missing ends it with the count so far.
-        while at < text.len() {
-            let c = utf8::code_at(text, at);
-            let r = self.with_character(w, n, c.code, spacing);
+        for code in Codes(text) {
+            let r = self.with_character(w, n, code, spacing);
             let Ok(v) = r.measure else {
                 return r;
             };
             w = v;
             n = r.count;
-            at += c.len;
         }
         Looked {
             measure: Ok(w),

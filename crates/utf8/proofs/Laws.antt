@@ -169,6 +169,17 @@ codes_first l k h e = rw (rest_is l k, cut) (codes_next l 0 (code_at l 0) refl h
 pub codes_none : (l : List ℕ) → length l ≡ 0 → codes l ≡ []
 codes_none l e = codes_end l 0 (omega arith)
 
+-- no more code points than bytes
+from_len : (k : ℕ) (l : List ℕ) → length (codes_from k l) ≤ length l
+unfolding codes_from
+from_len k [] = omega arith
+from_len zero (b ∷ l) = omega (arith, from_len (extra b) l)
+from_len (suc k) (b ∷ l) = omega (arith, from_len k l)
+
+pub codes_len : (l : List ℕ) → length (codes l) ≤ length l
+unfolding codes
+codes_len l = from_len 0 l
+
 -- `latin1`
 pub all_is : (cs : List ℕ) → all_latin1 cs ≡ list_all (λ c. leb 1 c && leb c 255) cs
 unfolding all_latin1

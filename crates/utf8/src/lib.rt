@@ -191,7 +191,7 @@ pub fn inside_character(s: &[u8], at: usize) -> bool
 
 // The code points of a text.
 #[derive(Drop)]
-struct Codes<'a>(&'a [u8]);
+pub struct Codes<'a>(pub &'a [u8]);
 
 impl<'a> Iterator for Codes<'a> {
     type Item = u32;
