@@ -57,22 +57,23 @@ fn bitmap_len(width: u8, height: u8) -> usize
 }
 
 // A font with no characters yet, if its record's kind and body keep their rules.
-#[tactic(auto, unfolding(crate::specs::Reading::font_in, crate::specs::Reading::font_shape, records::specs::Config::not_zero))]
+#[tactic(auto, unfolding(crate::specs::Reading::font_in, crate::specs::Reading::font_shape, records::specs::Config::not_zero, records::specs::Record::little_at))]
 fn font_in(kind: u16, body: &[u8], end: usize) -> Option<FontEntry>
     ensures { result ≡ font_in kind body.now end }
 {
-    if kind != 2 || body.len() != 6 || body[0] == 0 || body[1] == 0 {
+    let [number, height, char_spacing, line_spacing, a, b] = body else {
         return None;
-    }
-    Some(FontEntry {
-        number: body[0],
-        height: body[1],
-        char_spacing: body[2],
-        line_spacing: body[3],
-        version_id: records::le16(body, 4),
+    };
+    let entry = FontEntry {
+        number: *number,
+        height: *height,
+        char_spacing: *char_spacing,
+        line_spacing: *line_spacing,
+        version_id: u16::from_le_bytes([*a, *b]),
         first: end,
         characters: 0,
-    })
+    };
+    (kind == 2 && *number != 0 && *height != 0).then_some(entry)
 }
 
 // The font whose record is at an offset.
@@ -85,19 +86,18 @@ fn font_at(file: &[u8], at: usize) -> Option<FontEntry>
 }
 
 // A character, if its record's kind and body keep their rules.
-#[tactic(auto, unfolding(crate::specs::Reading::char_in, crate::specs::Reading::char_shape, records::specs::Config::not_zero))]
+#[tactic(auto, unfolding(crate::specs::Reading::char_in, crate::specs::Reading::char_shape, records::specs::Config::not_zero, records::specs::Record::little_at))]
 fn char_in(height: u8, kind: u16, body: &[u8], end: usize) -> Option<CharRecord>
     ensures { result ≡ char_in height kind body.now end }
 {
-    if kind != 3 || body.len() < 3 || body.len() != 3 + bitmap_len(body[2], height) {
+    let [a, b, width, bitmap @ ..] = body else {
+        return None;
+    };
+    if kind != 3 || bitmap.len() != bitmap_len(*width, height) {
         return None;
     }
-    let code = records::le16(body, 0);
-    if code == 0 {
-        None
-    } else {
-        Some(CharRecord { code, end })
-    }
+    let code = u16::from_le_bytes([*a, *b]);
+    (code != 0).then_some(CharRecord { code, end })
 }
 
 // The character whose record is at an offset.
