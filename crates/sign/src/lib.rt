@@ -208,6 +208,7 @@ impl Records<'_> {
     }
 
     // The options, in their order, and the fonts after them.
+    #[tactic(auto, using(crate::proofs::Options::options_on))]
     fn read_options(self, c: Config) -> Result<SignFile, RefusedAt>
         ensures { result ≡ given_after self.entry.file.now self.entry.at c }
     {
