@@ -1,4 +1,5 @@
-// A reader of the sign file: the lent bytes and a position. The work is done by `records::record_at`, on a slice and a number.
+// The reader that document 01 names, "A reader of the sign file keeps the lent bytes and a position": a struct, with thin functions over
+// `records::record_at`, which decodes a record by slice and number. Sign and font read through the function `record_at`.
 #![tactic(auto)]
 
 ghost use Rattle.std.specs.Prelude.{◌≡◌, ◌≤◌, length, IfSome};

@@ -1,24 +1,23 @@
--- The ways out of the readers of records, and how a record that was read cuts the file.
-use Prim.Native.Nat.{ℕ, zero, suc, ◌+◌, ◌-◌, ◌*◌, ◌^◌, ◌≤◌, ◌<◌, min}
+-- The tags that are known, and how a record that was read cuts the file.
+use Prim.Native.Nat.{ℕ, zero, suc, ◌+◌, ◌-◌, ◌^◌, ◌≤◌, ◌<◌, min}
 use mathlib.Core.Path.{◌≡◌, refl, sym, ◌∙◌, ap}
 use mathlib.Core.List.{List, [], ◌∷◌}
 use mathlib.Core.Bool.{Bool, true, false}
-use native.Mathlib.Nat.{add-zero, add-suc, add_assoc, mul_assoc, mul_left_comm, pow-suc, one-mul, zero-add, suc-add}
+use native.Mathlib.Nat.{add-zero, add-suc, suc-add}
 use native.Mathlib.Omega.{arith}
 use Rattle.std.proofs.Math.Dec.{lit<}
 use lib.Dec.{leb, eqb}
 use lib.Bits.{bit_and}
-use Rattle.std.specs.Prelude.{Option, Some, None, nat_eq}
+use Rattle.std.specs.Prelude.{Some, None, nat_eq}
 use Rattle.std.specs.Int.{w32}
 use Rattle.std.specs.Cmp.{both_ways}
 use Rattle.std.proofs.lemmas.Nat.{and_le_l}
 use Rattle.std.proofs.lemmas.Nat.Bits.{bit_at_and, bit_at_not, bit_at-zero, bit_at-lt, same_from_bits_below}
-use lib.ListN.{length, get_or, take, drop, drop_of_length-le, length-drop}
-use lib.Seq.{drop-drop, get_or-drop}
-use borrow.Author.Tests.{eqb-true, eqb-false, leb-true, leb-false, lt-leb, le-leb, eq-eqb}
+use lib.ListN.{length, take, drop, drop_of_length-le, length-drop}
+use lib.Seq.{drop-drop}
+use borrow.Author.Tests.{eqb-true, eqb-false, leb-true, le-leb, eq-eqb}
 use Rattle.base.specs.Pick.{pick}
-use Rattle.base.specs.Lists.{past_end}
-use Rattle.records.specs.Record.{all, little_at, body_len, kind_of, whole, Record, CutShort, first_piece, rest_len, cut_from, pieces, pieces_at, head_of, head_at}
+use Rattle.records.specs.Record.{all, body_len, kind_of, whole, Record, CutShort, first_piece, rest_len, cut_from, pieces, pieces_at, head_of, head_at}
 use Rattle.records.specs.Config.{mask, bit, bits_ok, tags_ok}
 use Rattle.records.specs.declared.Record.{Record as Head}
 
@@ -32,53 +31,6 @@ tests [] e = tt
 tests (t ∷ []) e = (e, tt)
 tests (true ∷ u ∷ ts) e = (refl, tests (u ∷ ts) e)
 tests (false ∷ u ∷ ts) e = cc
-
--- m bytes and n bytes after them
-pub little_join : (m n k : ℕ) (l : List ℕ) → little_at m k l + 256 ^ m * little_at n (k + m) l ≡ little_at (m + n) k l
-unfolding little_at
-little_join zero n k l = rw (add-zero k, zero-add n) (omega (arith, one-mul (little_at n k l)))
-little_join (suc m) n k l = rw (suc-add m n) (omega (arith, little_join m n (k + 1) l, shift))
-  where
-    x : ℕ
-    x = little_at n (k + 1 + m) l
-
-    place : k + suc m ≡ k + 1 + m
-    place = omega arith
-
-    shift : 256 ^ suc m * little_at n (k + suc m) l ≡ 256 * (256 ^ m * x)
-    shift = rw (place, pow-suc 256 m, mul_assoc) (mul_left_comm (256 ^ m) 256 x)
-
--- past the end there is no byte but 0
-pub little_past : (n at : ℕ) (l : List ℕ) → length l ≤ at → 0 ≡ little_at n at l
-unfolding little_at
-little_past zero at l h = refl
-little_past (suc n) at l h = omega (arith, past_end l at h, little_past n (at + 1) l (omega arith))
-
--- a place that is stopped at the greatest index is past the end, as the place itself is
-pub stopped : (n k at place : ℕ) (l : List ℕ) → length l < 2 ^ 64 → place ≡ min (at + k) 18446744073709551615 → little_at n place l ≡ little_at n (at + k) l
-stopped n k at place l h e = go (leb (at + k) 18446744073709551615) refl
-  where
-    go : (t : Bool) → leb (at + k) 18446744073709551615 ≡ t → little_at n place l ≡ little_at n (at + k) l
-    go true q = let m : place ≡ at + k = omega (arith, leb-true (at + k) 18446744073709551615 q) in rw m
-    go false q =
-        sym (little_past n place l (omega (arith, leb-false (at + k) 18446744073709551615 q)))
-        ∙ little_past n (at + k) l (omega (arith, leb-false (at + k) 18446744073709551615 q))
-
--- one byte and one byte after it, two bytes and two
-pub little_bytes : (a b at place : ℕ) (l : List ℕ) → length l < 2 ^ 64 → place ≡ min (at + 1) 18446744073709551615 → a ≡ get_or l at 0 → b ≡ get_or l place 0
-    → a + b * 256 ≡ little_at 2 at l
-unfolding little_at
-little_bytes a b at place l h e p q = omega (arith, stopped 1 1 at place l h e)
-
-pub little_words : (a b at place : ℕ) (l : List ℕ) → length l < 2 ^ 64 → place ≡ min (at + 2) 18446744073709551615 → a ≡ little_at 2 at l
-    → b ≡ little_at 2 place l
-    → a + 65536 * b ≡ little_at 4 at l
-little_words a b at place l h e p q = rw (p, q, stopped 2 2 at place l h e) (little_join 2 2 at l)
-
-little_drop : (n k at : ℕ) (l : List ℕ) → little_at n k (drop at l) ≡ little_at n (at + k) l
-unfolding little_at
-little_drop zero k at l = refl
-little_drop (suc n) k at l = rw (get_or-drop at l k 0, little_drop n (k + 1) at l, add_assoc at k 1)
 
 -- of n bits from k on none is set that is not in the mask
 pub bits_known : (n k tags j : ℕ) → bits_ok n k tags ≡ true → k ≤ j → j < k + n → bit j tags ≤ bit j mask
@@ -125,36 +77,6 @@ mask_test tags h =
     (same_from_bits_below 32 (outside tags) 0 (omega (arith, and_le_l tags 4160733975)) (lit< tt)
     (λ k j. out_none tags k j (bits_known 32 0 tags k q (omega arith) j) ∙ sym (bit_at-zero k))))
 
-module _ (file : List ℕ) (at : ℕ) where
-  body_is : body_len (drop at file) ≡ little_at 2 at file
-  unfolding body_len
-  body_is = little_drop 2 0 at file ∙ ap (λ (k : ℕ). little_at 2 k file) (add-zero at)
-
-  kind_is : kind_of (drop at file) ≡ little_at 2 (at + 2) file
-  unfolding kind_of
-  kind_is = little_drop 2 2 at file
-
-  whole_is : whole (drop at file) ≡ all (leb 4 (length file - at) ∷ leb (4 + little_at 2 at file) (length file - at) ∷ [])
-  unfolding whole
-  whole_is = rw (length-drop at file, body_is)
-
-  pub head_cut : (start : ℕ) → length file < start → start ≤ at + 4 → None ≡ head_at file at
-  unfolding head_at
-  head_cut start h p = rw (whole_is, lt-leb 4 (length file - at) (omega arith))
-
-  module _ (n : ℕ) (e : n ≡ little_at 2 at file) (h : at + 4 ≤ length file) where
-    pub body_cut : length file < at + 4 + n → None ≡ head_at file at
-    unfolding head_at
-    body_cut p = rw (whole_is, ← e, le-leb 4 (length file - at) (omega arith), lt-leb (4 + n) (length file - at) (omega arith))
-
-    pub head_whole : (k start end : ℕ) → k ≡ little_at 2 (at + 2) file → start ≡ at + 4 → end ≡ at + 4 + n → end ≤ length file
-        → Some (record { kind = k; start = start; end = end }) ≡ head_at file at
-    unfolding head_at
-    head_whole k start end d p q r =
-        rw (whole_is, body_is, kind_is, ← e, ← d, p, q, le-leb 4 (length file - at) (omega arith), le-leb (4 + n) (length file - at) (omega arith))
-
-pub ruleset head_ways = (head_cut, body_cut, head_whole)
-
 -- bytes to skip are bytes dropped
 pub skips : (at k : ℕ) (l : List ℕ) → cut_from at k l ≡ cut_from (at + k) 0 (drop k l)
 unfolding cut_from
@@ -196,16 +118,6 @@ module _ (file : List ℕ) (at : ℕ) (h : Head) (e : head_at file at ≡ Some h
 
   pub head_to : h.end ≤ length file
   head_to = omega (arith, told.3, (room (drop at file) told.0).0, (room (drop at file) told.0).1, length-drop at file)
-
--- the same, as a call of `record_at` answers it
-module _ (file : List ℕ) (at : ℕ) (s : Option Head) (p : s ≡ head_at file at) (h : Head) (q : s ≡ Some h) where
-  pub span_from_law : h.start ≤ h.end
-  span_from_law = head_from file at h (sym p ∙ q)
-
-  pub span_to : h.end ≤ length file
-  span_to = head_to file at h (sym p ∙ q)
-
-pub ruleset spans = (span_from_law, span_to)
 
 -- the first record of l, and the records past it
 cut_head : (at : ℕ) (l : List ℕ) → 0 < length l → cut_from at 0 l ≡ first_piece at l ∷ cut_from (at + suc (rest_len l)) 0 (drop (suc (rest_len l)) l)

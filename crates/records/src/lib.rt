@@ -8,7 +8,8 @@ ghost use Rattle.records.specs.Config.{config_of, size_ok, just_ok, tags_ok, con
 // The tags that a sign may support: fo, hc, jl, jp, nl, np, pt, sc and tr, bits 3, 5, 6, 7, 10 to 13 and 27.
 const MASK: u32 = 134233320;
 
-// A record's kind, the file's number, of which each reader takes its own; where its body starts, and where it ends.
+// A record's kind, where its body starts, and where it ends. The kind is the file's number, and no enum: any number may stand
+// there, and each reader tests for its own.
 #[derive(Clone, Copy)]
 pub struct Record {
     pub kind: u16,
@@ -35,37 +36,33 @@ pub struct Config {
 }
 
 // Two bytes as a number, the lowest first; 0 for each past the end.
-#[tactic(auto, using(crate::proofs::Laws::little_bytes))]
+#[tactic(auto, unfolding(crate::specs::Record::little_at))]
 pub fn le16(s: &[u8], at: usize) -> u16
     ensures { result ≡ little_at 2 at s.now }
 {
-    u16::from_le_bytes([base::byte_at(s, at), base::byte_at(s, at.saturating_add(1))])
-}
-
-// Four bytes as a number, the lowest first; 0 for each past the end.
-#[tactic(auto, using(crate::proofs::Laws::little_words))]
-fn le32(s: &[u8], at: usize) -> u32
-    ensures { result ≡ little_at 4 at s.now }
-{
-    u32::from(le16(s, at)) + 65536 * u32::from(le16(s, at.saturating_add(2)))
+    match s.get(at..) {
+        Some([a, b, ..]) => u16::from_le_bytes([*a, *b]),
+        Some([a]) => u16::from(*a),
+        _ => 0,
+    }
 }
 
 // The record at an offset, if all of it is there.
-#[tactic(auto, using(crate::proofs::Laws::head_ways))]
+#[tactic(auto, unfolding(crate::specs::Record::head_at, crate::specs::Record::whole, crate::specs::Record::body_len, crate::specs::Record::kind_of, crate::specs::Record::little_at))]
 pub fn record_at(file: &[u8], at: usize) -> Option<Record>
     ensures value { result ≡ head_at file.now at }
     ensures inside { IfSome result (λ r. (r.start ≤ r.end) × (r.end ≤ length file.now)) }
 {
-    let start = at.saturating_add(4);
-    if file.len() < start {
+    let [a, b, c, d, ..] = file.get(at..)? else {
         return None;
-    }
-    let end = start + usize::from(le16(file, at));
+    };
+    let start = at + 4;
+    let end = start + usize::from(u16::from_le_bytes([*a, *b]));
     if file.len() < end {
         return None;
     }
     Some(Record {
-        kind: le16(file, at + 2),
+        kind: u16::from_le_bytes([*c, *d]),
         start,
         end,
     })
@@ -109,7 +106,7 @@ fn config_ok(c: &Config) -> bool
 }
 
 // The values of the configuration's body, with no option.
-#[tactic(auto, unfolding(crate::specs::Config::config_of))]
+#[tactic(auto, unfolding(crate::specs::Config::config_of, crate::specs::Record::little_at))]
 fn config_in(body: &[u8]) -> Config
     requires { length body.now ≡ 15 }
     ensures { result ≡ config_of body.now }
@@ -124,7 +121,7 @@ fn config_in(body: &[u8]) -> Config
         page_just: body[8],
         on_time: body[9],
         off_time: body[10],
-        tags: le32(body, 11),
+        tags: u32::from_le_bytes([body[11], body[12], body[13], body[14]]),
         capitals: false,
         long_times: false,
     }
@@ -139,5 +136,5 @@ pub fn config_of(kind: u16, body: &[u8]) -> Option<Config>
         return None;
     }
     let c = config_in(body);
-    if config_ok(&c) { Some(c) } else { None }
+    config_ok(&c).then_some(c)
 }

@@ -20,7 +20,8 @@ pub struct FontEntry {
     pub characters: usize,
 }
 
-// A sign file that is accepted: the first count fonts are its fonts. No heap, and no ArrayVec, which is not Copy.
+// A sign file that is accepted: the first count fonts are its fonts. No heap, and no ArrayVec, which is not Copy: `Call` (meter) and
+// `font_numbered` (font) have this struct by value.
 #[derive(Clone, Copy)]
 pub struct SignFile {
     pub config: Config,
@@ -57,22 +58,23 @@ fn bitmap_len(width: u8, height: u8) -> usize
 }
 
 // A font with no characters yet, if its record's kind and body keep their rules.
-#[tactic(auto, unfolding(crate::specs::Reading::font_in, crate::specs::Reading::font_shape, records::specs::Config::not_zero))]
+#[tactic(auto, unfolding(crate::specs::Reading::font_in, crate::specs::Reading::font_shape, records::specs::Config::not_zero, records::specs::Record::little_at))]
 fn font_in(kind: u16, body: &[u8], end: usize) -> Option<FontEntry>
     ensures { result ≡ font_in kind body.now end }
 {
-    if kind != 2 || body.len() != 6 || body[0] == 0 || body[1] == 0 {
+    let [number, height, char_spacing, line_spacing, a, b] = body else {
         return None;
-    }
-    Some(FontEntry {
-        number: body[0],
-        height: body[1],
-        char_spacing: body[2],
-        line_spacing: body[3],
-        version_id: records::le16(body, 4),
+    };
+    let entry = FontEntry {
+        number: *number,
+        height: *height,
+        char_spacing: *char_spacing,
+        line_spacing: *line_spacing,
+        version_id: u16::from_le_bytes([*a, *b]),
         first: end,
         characters: 0,
-    })
+    };
+    (kind == 2 && *number != 0 && *height != 0).then_some(entry)
 }
 
 // The font whose record is at an offset.
@@ -85,19 +87,18 @@ fn font_at(file: &[u8], at: usize) -> Option<FontEntry>
 }
 
 // A character, if its record's kind and body keep their rules.
-#[tactic(auto, unfolding(crate::specs::Reading::char_in, crate::specs::Reading::char_shape, records::specs::Config::not_zero))]
+#[tactic(auto, unfolding(crate::specs::Reading::char_in, crate::specs::Reading::char_shape, records::specs::Config::not_zero, records::specs::Record::little_at))]
 fn char_in(height: u8, kind: u16, body: &[u8], end: usize) -> Option<CharRecord>
     ensures { result ≡ char_in height kind body.now end }
 {
-    if kind != 3 || body.len() < 3 || body.len() != 3 + bitmap_len(body[2], height) {
+    let [a, b, width, bitmap @ ..] = body else {
+        return None;
+    };
+    if kind != 3 || bitmap.len() != bitmap_len(*width, height) {
         return None;
     }
-    let code = records::le16(body, 0);
-    if code == 0 {
-        None
-    } else {
-        Some(CharRecord { code, end })
-    }
+    let code = u16::from_le_bytes([*a, *b]);
+    (code != 0).then_some(CharRecord { code, end })
 }
 
 // The character whose record is at an offset.
@@ -107,77 +108,6 @@ fn char_at(file: &[u8], at: usize, height: u8) -> Option<CharRecord>
 {
     let Record { kind, start, end } = reader::record_at(file, at)?;
     char_in(height, kind, &file[start..end], end)
-}
-
-// The characters of a font, in a row: the table tells which numbers were used. None: a number is past the table.
-fn read_run(file: &[u8], from: usize, height: u8, table: &mut [bool]) -> Option<CharRun>
-    requires from_in_bounds { from ≤ length file.now }
-    requires by_index { (n : ℕ) → slice_index_or table.old n false ≡ false }
-    ensures { RunIn file.now from height (length table.old) result }
-{
-    let mut n: usize = 0;
-    let mut at = from;
-    while let Some(CharRecord { code, end }) = char_at(file, at, height) {
-        if n == 256 {
-            break;
-        }
-        let k = usize::from(code);
-        if table.len() <= k {
-            return None;
-        }
-        if table[k] {
-            break;
-        }
-        table[k] = true;
-        n += 1;
-        at = end;
-    }
-    Some(CharRun { n, at })
-}
-
-// The same for any numbers, first with a small table: to clear the whole one takes longer than most files do.
-fn run_of(file: &[u8], from: usize, height: u8) -> CharRun
-    requires { from ≤ length file.now }
-    ensures { Ran file.now from height result.n result.at }
-{
-    let mut small = [false; 1024];
-    if let Some(run) = read_run(file, from, height, &mut small) {
-        return run;
-    }
-    let mut table = [false; 65536];
-    read_run(file, from, height, &mut table).unwrap()
-}
-
-// The fonts from an offset on, each with its characters.
-fn read_fonts(file: &[u8], from: usize, config: Config) -> Result<SignFile, RefusedAt>
-    requires { from ≤ length file.now }
-    ensures { result ≡ given_from file.now from config }
-{
-    let mut used = [false; 256];
-    let mut fonts = [FontEntry::default(); 24];
-    let mut count: usize = 0;
-    let mut at = from;
-    // A step is a font's records, and a refusal says where they begin: no iterator over the file tells both.
-    while at < file.len() {
-        let font = font_at(file, at).ok_or(RefusedAt { at })?;
-        let k = usize::from(font.number);
-        if count == 24 || used[k] {
-            return Err(RefusedAt { at });
-        }
-        used[k] = true;
-        let run = run_of(file, font.first, font.height);
-        fonts[count] = FontEntry {
-            characters: run.n,
-            ..font
-        };
-        count += 1;
-        at = run.at;
-    }
-    Ok(SignFile {
-        config,
-        fonts,
-        count,
-    })
 }
 
 // Where the records go on: past the one at an offset, if it is the option of that kind.
@@ -194,22 +124,104 @@ fn past_option(file: &[u8], at: usize, option: u16) -> usize
     }
 }
 
-// The options from an offset on, in their order, and the fonts after them.
-fn read_options(file: &[u8], from: usize, c: Config) -> Result<SignFile, RefusedAt>
-    requires { from ≤ length file.now }
-    ensures { result ≡ given_after file.now from c }
-{
-    let at = past_option(file, from, 4);
-    let end = past_option(file, at, 5);
-    read_fonts(
-        file,
-        end,
-        Config {
+// The records of a file from an offset on.
+#[derive(Clone, Copy)]
+struct Records<'a> {
+    file: &'a [u8],
+    at: usize,
+    ghost within: { at ≤ length file.now },
+}
+
+impl Records<'_> {
+    // The characters of a font, in a row: the table tells which numbers were used. None: a number is past the table.
+    fn read_run(self, height: u8, table: &mut [bool]) -> Option<CharRun>
+        requires { (n : ℕ) → slice_index_or table.old n false ≡ false }
+        ensures { RunIn self.entry.file.now self.entry.at height (length table.old) result }
+    {
+        let mut n: usize = 0;
+        let mut at = self.at;
+        // No iterator: count and table tell the character that ends the row, the 257th or one used before, and it ends before its record.
+        while let Some(CharRecord { code, end }) = char_at(self.file, at, height) {
+            if n == 256 {
+                break;
+            }
+            let k = usize::from(code);
+            if table.len() <= k {
+                return None;
+            }
+            if table[k] {
+                break;
+            }
+            table[k] = true;
+            n += 1;
+            at = end;
+        }
+        Some(CharRun { n, at })
+    }
+
+    // The same for any numbers, first with a small table: to clear the whole one takes longer than most files do.
+    fn run_of(self, height: u8) -> CharRun
+        ensures { Ran self.entry.file.now self.entry.at height result.n result.at }
+    {
+        let mut small = [false; 1024];
+        if let Some(run) = self.read_run(height, &mut small) {
+            return run;
+        }
+        let mut table = [false; 65536];
+        self.read_run(height, &mut table).unwrap()
+    }
+
+    // The fonts, each with its characters.
+    fn read_fonts(self, config: Config) -> Result<SignFile, RefusedAt>
+        ensures { result ≡ given_from self.entry.file.now self.entry.at config }
+    {
+        let file = self.file;
+        let mut used = [false; 256];
+        let mut fonts = [FontEntry::default(); 24];
+        let mut count: usize = 0;
+        let mut at = self.at;
+        // A step is a font's records, and a refusal says where they begin: no iterator over the file tells both.
+        while at < file.len() {
+            let font = font_at(file, at).ok_or(RefusedAt { at })?;
+            let k = usize::from(font.number);
+            if count == 24 || used[k] {
+                return Err(RefusedAt { at });
+            }
+            used[k] = true;
+            let characters = Records {
+                file,
+                at: font.first,
+            };
+            let run = characters.run_of(font.height);
+            fonts[count] = FontEntry {
+                characters: run.n,
+                ..font
+            };
+            count += 1;
+            at = run.at;
+        }
+        Ok(SignFile {
+            config,
+            fonts,
+            count,
+        })
+    }
+
+    // The options, in their order, and the fonts after them.
+    #[tactic(auto, using(crate::proofs::Options::options_on))]
+    fn read_options(self, c: Config) -> Result<SignFile, RefusedAt>
+        ensures { result ≡ given_after self.entry.file.now self.entry.at c }
+    {
+        let Records { file, at: from } = self;
+        let at = past_option(file, from, 4);
+        let end = past_option(file, at, 5);
+        let fonts = Records { file, at: end };
+        fonts.read_fonts(Config {
             capitals: from < at,
             long_times: at < end,
             ..c
-        },
-    )
+        })
+    }
 }
 
 // The whole file.
@@ -222,5 +234,5 @@ pub fn read_sign(file: &[u8]) -> Result<SignFile, RefusedAt>
     }
     let Record { kind, start, end } = reader::record_at(file, 0).ok_or(first)?;
     let config = records::config_of(kind, &file[start..end]).ok_or(first)?;
-    read_options(file, end, config)
+    Records { file, at: end }.read_options(config)
 }

@@ -1,8 +1,8 @@
 use Rattle.sign.proofs.Laws.{run_start, run_less, run_on, run_full, run_used, run_other}
-use Rattle.sign.proofs.read_run.Goals as goal
+use Rattle.sign.proofs.Records.read_run.Goals as goal
 
 pub loop-code-init : goal.loop-code-init
-loop-code-init c = run_start _ _ _ _ c.requires.from_in_bounds c.requires.by_index
+loop-code-init c = run_start _ _ _ _ c.args.self.within c.requires
 
 pub loop-code-smaller : goal.loop-code-smaller
 loop-code-smaller c = run_less _ _ _ _ _ _ _ c.loop-code.invariant _ c.in-Some.ensures
