@@ -35,10 +35,7 @@ pub fn parse_font(p: &[u8]) -> Option<Value>
     if p.is_empty() {
         return Some(Value::Font(None));
     }
-    let n = part::number_before(p, b',', 255)?;
-    if n == 0 {
-        return None;
-    }
+    let n = part::number_before(p, b',', 255).filter(|n| *n != 0)?;
     param::parse_version_id(p).map(|id| Value::Font(Some((n as u8, id))))
 }
 
@@ -206,10 +203,7 @@ fn parse_point(n: u8, p: &[u8]) -> Option<Value>
 pub fn parse_graphic(p: &[u8]) -> Option<Value>
     ensures { result ≡ graphic p.now }
 {
-    let g = part::number_before(p, b',', 255)?;
-    if g == 0 {
-        return None;
-    }
+    let g = part::number_before(p, b',', 255).filter(|g| *g != 0)?;
     let n = g as u8;
     if part::has(p, b',') {
         parse_point(n, part::rest_part(p, b','))
