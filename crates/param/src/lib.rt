@@ -8,7 +8,7 @@ ghost use Rattle.param.specs.Param.{read_optional, optional_version, justificati
 
 use value::{Color, Rectangle};
 
-// What may be missing: none where it is, else what reads it.
+// What may be missing: none where it is not there, else what `read` makes of it.
 pub fn optional<T, F: FnOnce() -> Option<T>>(there: bool, read: F) -> Option<Option<T>>
     requires { IsTrue there → F.pre read }
     ensures missing { IsFalse there → result ≡ Some None }
