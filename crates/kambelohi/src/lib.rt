@@ -14,6 +14,7 @@ ghost use Rattle.sentence.specs.Sentence.{telling as telling_of, buffer_after as
 use counts::Placed;
 use every::{Listed, Shown};
 use layout::{Answer, Span};
+use numbers::Numbers;
 use reading::Reading;
 use refusal::Refusal;
 
@@ -38,7 +39,7 @@ impl From<Reading> for ReadAnswer {
     fn from(r: Reading) -> ReadAnswer {
         match r {
             Reading::Slice(p, v) => {
-                let m = numbers::numbers_of(v);
+                let m = Numbers::from(v);
                 let n = m.n;
                 ReadAnswer {
                     kind: 0,

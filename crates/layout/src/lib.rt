@@ -31,7 +31,8 @@ pub struct RenderState {
     pub span: u8,
 }
 
-// A span before it is placed: its record's kind, start, length and code, and the state it was read in. The kind is the record's number, which C reads.
+// A span before it is placed: its record's kind, start, length and code, and the state it was read in. The kind is the record's number, which C
+// reads: an enum would be turned into it again.
 #[derive(Clone, Copy)]
 pub struct Entry {
     pub kind: u16,
@@ -41,7 +42,7 @@ pub struct Entry {
     pub state: RenderState,
 }
 
-// Number and detail of refusal 10, 11 or 12, as the refusal has them: what the fonts say against a span.
+// Number and detail of refusal 10, 11 or 12, as the refusal has them: what the fonts say against a span. An enum would be turned into the number again.
 #[derive(Clone, Copy)]
 pub struct Fault {
     pub number: u8,
@@ -75,7 +76,7 @@ pub enum Step {
 }
 
 // A placed span. kind: 0 text, 1 hexadecimal character, 2 empty line. start and length in message bytes; code of kind 1, else 0; x and y
-// from 0; the rectangle's x and y from 1 as in [tr], its zero sizes extended.
+// from 0; the rectangle's x and y from 1 as in [tr], its zero sizes extended. C reads it, so that kinds are numbers.
 #[repr(C)]
 #[derive(Clone, Copy)]
 pub struct Span {

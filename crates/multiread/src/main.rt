@@ -6,6 +6,7 @@
 ghost use Rattle.std.specs.Prelude.{◌-◌, length};
 ghost use Rattle.std.specs.Iterator.{at_most};
 
+use numbers::Numbers;
 use reading::Reading;
 use refusal::Refusal;
 use std::rt::Files;
@@ -36,7 +37,7 @@ impl Iterator for Starts<'_> {
 }
 
 fn print_slice(rt: &impl Print, p: Place, v: Value) {
-    let said = numbers::numbers_of(v);
+    let said = Numbers::from(v);
     let _ = print!(rt; "{} {} {}", p.start, p.len, said.code);
     for n in &said.n {
         let _ = print!(rt; " {n}");

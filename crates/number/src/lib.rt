@@ -7,7 +7,7 @@ ghost use Rattle.number.specs.Number.{read_digits, read_number, version_id};
 // One or more digits.
 #[tactic(auto, using(crate::proofs::Laws::steps), unfolding(crate::specs::Number::read_digits, crate::specs::Number::read_from))]
 fn read_digits(s: &[u8], radix: u32, max: u32) -> Option<u32>
-    requires { radix ≤ 16 }
+    requires { (2 ≤ radix) × (radix ≤ 16) }
     ensures value { result ≡ read_digits radix max s.now }
     ensures within { IfSome result (λ n. n ≤ max) }
 {
@@ -16,9 +16,9 @@ fn read_digits(s: &[u8], radix: u32, max: u32) -> Option<u32>
     }
     let mut n = 0u32;
     for b in s {
-        let d = char::from(*b).to_digit(16)?;
+        let d = char::from(*b).to_digit(radix)?;
         n = n.checked_mul(radix)?.checked_add(d)?;
-        if radix <= d || max < n {
+        if max < n {
             return None;
         }
     }
@@ -28,7 +28,7 @@ fn read_digits(s: &[u8], radix: u32, max: u32) -> Option<u32>
 // One or more digits, after a + or not.
 #[tactic(auto, unfolding(crate::specs::Number::read_number, crate::specs::Number::read_digits))]
 fn read_number(s: &[u8], radix: u32, max: u32) -> Option<u32>
-    requires { radix ≤ 16 }
+    requires { (2 ≤ radix) × (radix ≤ 16) }
     ensures value { result ≡ read_number radix max s.now }
     ensures within { IfSome result (λ n. n ≤ max) }
 {

@@ -1,4 +1,5 @@
 // A value as numbers: the place of its case in `enum Value`, from 1, and eight numbers. Vectors and C have values so.
+// `as` takes the place of an enum's case, from 0; a `From` for it would be a table by hand.
 #![tactic(auto)]
 
 ghost use Rattle.std.specs.Prelude.{◌≡◌, ◌≤◌, [], ◌∷◌};
@@ -131,40 +132,49 @@ fn moving(m: MovingTextMode, d: MovingTextDirection, t: Movement) -> Numbers
     )
 }
 
-// The numbers of a value. No `From`: a function's promise is a clause, which reads plainer than a ghost member.
+// The numbers of a value.
+impl From<Value> for Numbers {
+    ghost from_gives = { λ v m. m ≡ numbers_of v };
+
+    fn from(v: Value) -> Numbers {
+        match v {
+            Value::ColorBackground(c) => color(1, c),
+            Value::ColorForeground(c) => color(2, c),
+            Value::ColorRectangle(r, c) => color_rectangle(r, c),
+            Value::Field(n, w) => make(4, [u32::from(n), flag(w), or_zero(w)]),
+            Value::Flash(o, a, b) => make(5, [o as u32, flag(a), or_zero(a), flag(b), or_zero(b)]),
+            Value::FlashEnd => make(6, []),
+            Value::Font(f) => font(f),
+            Value::Graphic(n, p) => graphic(n, p),
+            Value::HexadecimalCharacter(c) => make(9, [u32::from(c)]),
+            Value::JustificationLine(j) => make(10, [flag(j), or_zero(j)]),
+            Value::JustificationPage(j) => make(11, [flag(j), or_zero(j)]),
+            Value::ManufacturerSpecific(m, p) => specific(12, m, p),
+            Value::ManufacturerSpecificEnd(m, p) => specific(13, m, p),
+            Value::MovingText(m, d, t) => moving(m, d, t),
+            Value::NewLine(s) => make(15, [flag(s), or_zero(s)]),
+            Value::NewPage => make(16, []),
+            Value::PageBackground(c) => color(17, c),
+            Value::PageTime(a, b) => make(18, [flag(a), or_zero(a), flag(b), or_zero(b)]),
+            Value::SpacingCharacter(s) => make(19, [u32::from(s)]),
+            Value::SpacingCharacterEnd => make(20, []),
+            Value::Text(p) => make(21, [u32::from(p.start), u32::from(p.len)]),
+            Value::TextRectangle(r) => make(
+                22,
+                [
+                    u32::from(r.x),
+                    u32::from(r.y),
+                    u32::from(r.width),
+                    u32::from(r.height),
+                ],
+            ),
+        }
+    }
+}
+
+// The same as a function, whose promise is a clause.
 pub fn numbers_of(v: Value) -> Numbers
     ensures { result ≡ numbers_of v }
 {
-    match v {
-        Value::ColorBackground(c) => color(1, c),
-        Value::ColorForeground(c) => color(2, c),
-        Value::ColorRectangle(r, c) => color_rectangle(r, c),
-        Value::Field(n, w) => make(4, [u32::from(n), flag(w), or_zero(w)]),
-        Value::Flash(o, a, b) => make(5, [o as u32, flag(a), or_zero(a), flag(b), or_zero(b)]),
-        Value::FlashEnd => make(6, []),
-        Value::Font(f) => font(f),
-        Value::Graphic(n, p) => graphic(n, p),
-        Value::HexadecimalCharacter(c) => make(9, [u32::from(c)]),
-        Value::JustificationLine(j) => make(10, [flag(j), or_zero(j)]),
-        Value::JustificationPage(j) => make(11, [flag(j), or_zero(j)]),
-        Value::ManufacturerSpecific(m, p) => specific(12, m, p),
-        Value::ManufacturerSpecificEnd(m, p) => specific(13, m, p),
-        Value::MovingText(m, d, t) => moving(m, d, t),
-        Value::NewLine(s) => make(15, [flag(s), or_zero(s)]),
-        Value::NewPage => make(16, []),
-        Value::PageBackground(c) => color(17, c),
-        Value::PageTime(a, b) => make(18, [flag(a), or_zero(a), flag(b), or_zero(b)]),
-        Value::SpacingCharacter(s) => make(19, [u32::from(s)]),
-        Value::SpacingCharacterEnd => make(20, []),
-        Value::Text(p) => make(21, [u32::from(p.start), u32::from(p.len)]),
-        Value::TextRectangle(r) => make(
-            22,
-            [
-                u32::from(r.x),
-                u32::from(r.y),
-                u32::from(r.width),
-                u32::from(r.height),
-            ],
-        ),
-    }
+    Numbers::from(v)
 }

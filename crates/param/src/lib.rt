@@ -1,36 +1,31 @@
 // Parameters of tags that are more than one number. Each takes parts of the tag; none is copied.
+// A cast of a number that was read with a bound loses nothing, which is proved; `try_from` would add a refusal that no call gives.
 #![tactic(auto)]
 
-ghost use Rattle.std.specs.Prelude.{◌≡◌};
+ghost use Rattle.std.specs.Prelude.{◌≡◌, Option, Some, None, IsTrue, IsFalse};
+ghost use Rattle.std.specs.Option.{option_map};
 ghost use Rattle.param.specs.Param.{read_optional, optional_version, justification, read_xy, rectangle_of, read_rgb, rgb_of, color_of};
-ghost use Rattle.part.specs.Part.{up_to, past};
 
 use value::{Color, Rectangle};
 
-// An optional number of at most max: nothing is none.
+// What may be missing: none where it is not there, else what `read` makes of it.
+pub fn optional<T, F: FnOnce() -> Option<T>>(there: bool, read: F) -> Option<Option<T>>
+    requires { IsTrue there → F.pre read }
+    ensures missing { IsFalse there → result ≡ Some None }
+    ensures read { IsTrue there → (r : Option T) × F.post read r × (result ≡ option_map Some r) }
+{
+    if there { read().map(Some) } else { Some(None) }
+}
+
+// An optional number of at most max.
 #[tactic(auto, unfolding(crate::specs::Param::read_optional))]
-fn parse_optional(p: &[u8], max: u16) -> Option<Option<u16>>
+pub fn parse_optional(p: &[u8], max: u16) -> Option<Option<u16>>
     ensures { result ≡ read_optional max p.now }
 {
-    if p.is_empty() {
-        return Some(None);
-    }
-    let n = number::parse(p, u32::from(max))?;
-    Some(Some(n as u16))
-}
-
-// The optional number before the first separator.
-pub fn optional_before(p: &[u8], sep: u8, max: u16) -> Option<Option<u16>>
-    ensures { result ≡ read_optional max (up_to sep p.now) }
-{
-    parse_optional(part::first_part(p, sep), max)
-}
-
-// The optional number after it.
-pub fn optional_after(p: &[u8], sep: u8, max: u16) -> Option<Option<u16>>
-    ensures { result ≡ read_optional max (past sep p.now) }
-{
-    parse_optional(part::rest_part(p, sep), max)
+    optional(
+        !p.is_empty(),
+        || number::parse(p, u32::from(max)).map(|n| n as u16),
+    )
 }
 
 // The version id after the first comma, if there is one.
@@ -38,11 +33,10 @@ pub fn optional_after(p: &[u8], sep: u8, max: u16) -> Option<Option<u16>>
 pub fn parse_version_id(p: &[u8]) -> Option<Option<u16>>
     ensures { result ≡ optional_version p.now }
 {
-    if !part::has(p, b',') {
-        return Some(None);
-    }
-    let n = number::version_id(part::rest_part(p, b','))?;
-    Some(Some(n as u16))
+    optional(
+        part::has(p, b','),
+        || number::version_id(part::rest_part(p, b',')).map(|n| n as u16),
+    )
 }
 
 // `JustificationLine::new` and `JustificationPage::new`: nothing, or one digit from 1 to top.
@@ -64,10 +58,7 @@ pub fn parse_xy(x: &[u8], y: &[u8]) -> Option<(u16, u16)>
 {
     let a = number::parse(x, 65535)?;
     let b = number::parse(y, 65535)?;
-    if a == 0 || b == 0 {
-        return None;
-    }
-    Some((a as u16, b as u16))
+    (a != 0 && b != 0).then_some((a as u16, b as u16))
 }
 
 #[tactic(auto, unfolding(crate::specs::Param::rectangle_of))]
@@ -116,6 +107,5 @@ pub fn parse_color(p: &[u8]) -> Option<Color>
     if part::has(p, b',') {
         return rgb_of(p);
     }
-    let n = number::parse(p, 255)?;
-    Some(Color::Legacy(n as u8))
+    number::parse(p, 255).map(|n| Color::Legacy(n as u8))
 }

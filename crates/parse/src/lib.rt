@@ -1,8 +1,10 @@
 // The tag parser: `parse_tag` of multi.rs, and the tags that hold a text.
+// A cast of a number that was read with a bound, of a length or of a place of the message loses nothing, which is proved; `try_from` would
+// add a refusal that no call gives.
 #![tactic(auto)]
 
 ghost use Rattle.std.specs.Prelude.{◌≡◌, ◌≤◌, length, drop};
-ghost use Rattle.parse.specs.Parse.{place_of, text_of, specific_of, manufacturer_specific, manufacturer_specific_end, movement_of, moving_text_mode, moving_text_linear, moving_text, end_name, first_name, name_by, name_of, name_len, pair, by_name, tag_value};
+ghost use Rattle.parse.specs.Parse.{place_of, text_of, specific_of, movement_of, moving_text_mode, moving_text_linear, moving_text, end_name, first_name, name_by, name_of, name_len, pair, by_name, tag_value};
 ghost use Rattle.part.specs.Part.{past};
 
 use value::{Movement, MovingTextDirection, MovingTextMode, Place, SyntaxError, Value};
@@ -85,28 +87,12 @@ fn text_of(p: Rest) -> Option<Place>
     part::has(p.bytes, b',').then_some(p.past_comma().place())
 }
 
-// The number of a manufacturer specific tag, and its text.
+// The number of a manufacturer specific tag or of its end, and its text.
 fn specific(p: Rest) -> Option<(u32, Option<Place>)>
     ensures { result ≡ specific_of p.entry.end p.entry.bytes.now }
 {
     let m = part::number_before(p.bytes, b',', u32::MAX)?;
     Some((m, text_of(p)))
-}
-
-#[tactic(auto, unfolding(crate::specs::Parse::manufacturer_specific))]
-fn parse_manufacturer_specific(p: Rest) -> Option<Value>
-    ensures { result ≡ manufacturer_specific p.entry.end p.entry.bytes.now }
-{
-    let (m, text) = specific(p)?;
-    Some(Value::ManufacturerSpecific(m, text))
-}
-
-#[tactic(auto, unfolding(crate::specs::Parse::manufacturer_specific_end))]
-fn parse_manufacturer_specific_end(p: Rest) -> Option<Value>
-    ensures { result ≡ manufacturer_specific_end p.entry.end p.entry.bytes.now }
-{
-    let (m, text) = specific(p)?;
-    Some(Value::ManufacturerSpecificEnd(m, text))
 }
 
 // Of a moving text, after its direction's letter: three numbers, and the text with its commas.
@@ -139,8 +125,7 @@ fn parse_moving_text_mode(mode: MovingTextMode, p: Rest) -> Option<Value>
         b'r' => MovingTextDirection::Right,
         _ => return None,
     };
-    let movement = movement_of(p.tail(1))?;
-    Some(Value::MovingText(mode, direction, movement))
+    movement_of(p.tail(1)).map(|movement| Value::MovingText(mode, direction, movement))
 }
 
 // After [mvl: a digit, the delay, may come first.
@@ -244,6 +229,7 @@ fn name_len(name: Name) -> usize
 }
 
 // The value of a name with the bytes after it; long times may hold.
+#[tactic(auto, unfolding(crate::specs::Parse::manufacturer_specific, crate::specs::Parse::manufacturer_specific_end))]
 fn by_name(name: Name, p: Rest, long: bool) -> Option<Value>
     ensures { result ≡ by_name long name p.entry.end p.entry.bytes.now }
 {
@@ -259,8 +245,8 @@ fn by_name(name: Name, p: Rest, long: bool) -> Option<Value>
         Name::Hc => tag::parse_hexadecimal_character(p.bytes),
         Name::Jl => tag::parse_justification_line(p.bytes),
         Name::Jp => tag::parse_justification_page(p.bytes),
-        Name::Ms => parse_manufacturer_specific(p),
-        Name::MsEnd => parse_manufacturer_specific_end(p),
+        Name::Ms => specific(p).map(|(m, text)| Value::ManufacturerSpecific(m, text)),
+        Name::MsEnd => specific(p).map(|(m, text)| Value::ManufacturerSpecificEnd(m, text)),
         Name::Mv => parse_moving_text(p),
         Name::Nl => tag::parse_new_line(p.bytes),
         Name::Np => tag::parse_new_page(p.bytes),

@@ -1,4 +1,5 @@
 // The reading call: the slice at an offset of a message, with its value.
+// A cast of a length or a place of the message loses nothing, which is proved; `try_from` would add an error that no call gives.
 #![tactic(auto)]
 
 ghost use Rattle.std.specs.Prelude.{◌≡◌, ◌+◌, ◌≤◌, ◌<◌, length};
@@ -8,7 +9,8 @@ use refusal::Refusal;
 use token::Shape;
 use value::{Place, SyntaxError, Value};
 
-// The slice at the offset and its value, the end of the message, or a refusal: the document's three, which C has as numbers.
+// The slice at the offset and its value, the end of the message, or a refusal.
+// No Result: the document and C have a refusal as one of three answers, and the definitions count it among them.
 #[derive(Clone, Copy)]
 pub enum Reading {
     Slice(Place, Value),

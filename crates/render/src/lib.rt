@@ -59,7 +59,8 @@ fn rect_fits(c: Config, r: Rect) -> bool
     fits(r.left, r.width, c.width, c.char_width) && fits(r.top, r.height, c.height, c.char_height)
 }
 
-// Where an item is read: the sign, the state, whether the line is still blank, and the item's place.
+// Where an item is read: the sign, the state, whether the line is still blank, and the item's place. What reads an item needs all four.
+// `blank` is a flag alone: no value is there for only one of its cases.
 #[derive(Clone, Copy)]
 struct Here {
     c: Config,
@@ -151,7 +152,7 @@ impl Here {
         }
     }
 
-    // The justification of a [jl] or [jp], or the sign's where it has none: 2 to 4 are taken.
+    // The justification of a [jl] or [jp], or the sign's where it has none: 2 to 4 are taken, so that the cast loses nothing.
     fn just(self, j: Option<u16>, d: u8) -> Result<u8, Refusal>
         ensures { result ≡ ok_or (justified j d) (refusal_at self.p 6) }
     {

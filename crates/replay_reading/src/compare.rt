@@ -1,5 +1,6 @@
 // Comparing a case with its answer, line by line.
 use arrayvec::ArrayVec;
+use numbers::Numbers;
 use reading::Reading;
 use replay::{Kind, Line, Phase};
 
@@ -77,7 +78,7 @@ fn is_slice(line: &[u8], msg: &[u8], at: usize, len: usize) -> bool {
     let len = len as u64;
     match reading::read(msg, at, false) {
         Reading::Slice(_, v) => {
-            let said = numbers::numbers_of(v);
+            let said = Numbers::from(v);
             let mut all = [0; 11];
             all[..3].copy_from_slice(&[start, len, u64::from(said.code)]);
             for (to, n) in all[3..].iter_mut().zip(&said.n) {

@@ -1,4 +1,6 @@
-// The tag parsers: the parse_ functions of multi.rs. Each takes the tag's bytes after its name; none is a bad parameter.
+// The tag parsers: the parse_ functions of multi.rs, one for each tag by its name there, so that some differ in a constant or a value alone;
+// one function for these would be their line with both as parameters. Each takes the tag's bytes after its name; none is a bad parameter.
+// A cast of a number that was read with a bound loses nothing, which is proved; `try_from` would add a refusal that no call gives.
 #![tactic(auto)]
 
 ghost use Rattle.std.specs.Prelude.{◌≡◌};
@@ -14,10 +16,7 @@ pub fn parse_new_line(p: &[u8]) -> Option<Value>
 {
     match p {
         [] => Some(Value::NewLine(None)),
-        [_] => {
-            let n = number::parse(p, 255)?;
-            Some(Value::NewLine(Some(n as u16)))
-        }
+        [_] => number::parse(p, 255).map(|n| Value::NewLine(Some(n as u16))),
         _ => None,
     }
 }
@@ -36,28 +35,22 @@ pub fn parse_font(p: &[u8]) -> Option<Value>
     if p.is_empty() {
         return Some(Value::Font(None));
     }
-    let n = part::number_before(p, b',', 255)?;
-    if n == 0 {
-        return None;
-    }
-    let id = param::parse_version_id(p)?;
-    Some(Value::Font(Some((n as u8, id))))
+    let n = part::number_before(p, b',', 255).filter(|n| *n != 0)?;
+    param::parse_version_id(p).map(|id| Value::Font(Some((n as u8, id))))
 }
 
 #[tactic(auto, unfolding(crate::specs::Tag::justification_line))]
 pub fn parse_justification_line(p: &[u8]) -> Option<Value>
     ensures { result ≡ justification_line p.now }
 {
-    let j = param::parse_justification(p, 5)?;
-    Some(Value::JustificationLine(j))
+    param::parse_justification(p, 5).map(Value::JustificationLine)
 }
 
 #[tactic(auto, unfolding(crate::specs::Tag::justification_page))]
 pub fn parse_justification_page(p: &[u8]) -> Option<Value>
     ensures { result ≡ justification_page p.now }
 {
-    let j = param::parse_justification(p, 4)?;
-    Some(Value::JustificationPage(j))
+    param::parse_justification(p, 4).map(Value::JustificationPage)
 }
 
 // The longest page time: long times may hold.
@@ -71,8 +64,8 @@ fn most_time(long: bool) -> u16
 fn times(p: &[u8], sep: u8, most: u16) -> Option<(Option<u16>, Option<u16>)>
     ensures { result ≡ times_of sep most p.now }
 {
-    let first = param::optional_before(p, sep, most)?;
-    let second = param::optional_after(p, sep, most)?;
+    let first = param::parse_optional(part::first_part(p, sep), most)?;
+    let second = param::parse_optional(part::rest_part(p, sep), most)?;
     Some((first, second))
 }
 
@@ -88,38 +81,32 @@ pub fn parse_page_time(p: &[u8], long: bool) -> Option<Value>
 fn optional_color(p: &[u8]) -> Option<Option<Color>>
     ensures { result ≡ optional_color_of p.now }
 {
-    if p.is_empty() {
-        return Some(None);
-    }
-    let c = param::parse_color(p)?;
-    Some(Some(c))
+    param::optional(!p.is_empty(), || param::parse_color(p))
 }
 
 #[tactic(auto, unfolding(crate::specs::Tag::page_background))]
 pub fn parse_page_background(p: &[u8]) -> Option<Value>
     ensures { result ≡ page_background p.now }
 {
-    let c = optional_color(p)?;
-    Some(Value::PageBackground(c))
+    optional_color(p).map(Value::PageBackground)
 }
 
 #[tactic(auto, unfolding(crate::specs::Tag::color_foreground))]
 pub fn parse_color_foreground(p: &[u8]) -> Option<Value>
     ensures { result ≡ color_foreground p.now }
 {
-    let c = optional_color(p)?;
-    Some(Value::ColorForeground(c))
+    optional_color(p).map(Value::ColorForeground)
 }
 
 #[tactic(auto, unfolding(crate::specs::Tag::color_background))]
 pub fn parse_color_background(p: &[u8]) -> Option<Value>
     ensures { result ≡ color_background p.now }
 {
-    if p.is_empty() {
-        return Some(Value::ColorBackground(None));
-    }
-    let n = number::parse(p, 255)?;
-    Some(Value::ColorBackground(Some(Color::Legacy(n as u8))))
+    let c = param::optional(
+        !p.is_empty(),
+        || number::parse(p, 255).map(|n| Color::Legacy(n as u8)),
+    );
+    c.map(Value::ColorBackground)
 }
 
 // What comes after the first three parts.
@@ -159,24 +146,21 @@ pub fn parse_color_rectangle(p: &[u8]) -> Option<Value>
 pub fn parse_text_rectangle(p: &[u8]) -> Option<Value>
     ensures { result ≡ text_rectangle p.now }
 {
-    let r = rectangle(p, after_three(p))?;
-    Some(Value::TextRectangle(r))
+    rectangle(p, after_three(p)).map(Value::TextRectangle)
 }
 
 #[tactic(auto, unfolding(crate::specs::Tag::spacing_character))]
 pub fn parse_spacing_character(p: &[u8]) -> Option<Value>
     ensures { result ≡ spacing_character p.now }
 {
-    let n = number::parse(p, 99)?;
-    Some(Value::SpacingCharacter(n as u8))
+    number::parse(p, 99).map(|n| Value::SpacingCharacter(n as u8))
 }
 
 #[tactic(auto, unfolding(crate::specs::Tag::hexadecimal_character))]
 pub fn parse_hexadecimal_character(p: &[u8]) -> Option<Value>
     ensures { result ≡ hexadecimal_character p.now }
 {
-    let n = number::from_hex(p)?;
-    Some(Value::HexadecimalCharacter(n as u16))
+    number::from_hex(p).map(|n| Value::HexadecimalCharacter(n as u16))
 }
 
 #[tactic(auto, unfolding(crate::specs::Tag::flash_time, crate::specs::Tag::flash_on, crate::specs::Tag::flash_off))]
@@ -200,7 +184,7 @@ pub fn parse_field(p: &[u8]) -> Option<Value>
     ensures { result ≡ field p.now }
 {
     let n = part::number_before(p, b',', 13)?;
-    let w = param::optional_after(p, b',', 255)?;
+    let w = param::parse_optional(part::rest_part(p, b','), 255)?;
     Some(Value::Field(n as u8, w))
 }
 
@@ -219,10 +203,7 @@ fn parse_point(n: u8, p: &[u8]) -> Option<Value>
 pub fn parse_graphic(p: &[u8]) -> Option<Value>
     ensures { result ≡ graphic p.now }
 {
-    let g = part::number_before(p, b',', 255)?;
-    if g == 0 {
-        return None;
-    }
+    let g = part::number_before(p, b',', 255).filter(|g| *g != 0)?;
     let n = g as u8;
     if part::has(p, b',') {
         parse_point(n, part::rest_part(p, b','))

@@ -53,7 +53,8 @@ pub struct Movement {
     pub text: Place,
 }
 
-// Justifications are the numbers of NTCIP 1203: 1 other, 2 left, 3 centre, 4 right, 5 full; 2 top, 3 middle, 4 bottom.
+// Justifications are the numbers of NTCIP 1203: 1 other, 2 left, 3 centre, 4 right, 5 full; 2 top, 3 middle, 4 bottom. Numbers, since tags and C
+// have them so and refusal 9 orders them: an enum would be made from the digit and turned into it again.
 #[derive(Clone, Copy)]
 pub enum Value {
     ColorBackground(Option<Color>),
