@@ -13,6 +13,7 @@ use sign::SignFile;
 pub fn admit(file: &[u8], msg: &[u8]) -> Result<SignFile, Refusal>
     ensures { result ≡ handed (admission file.now msg.now) }
 {
+    // The start by `as`: a file has at most 65,535 bytes, so that nothing is lost.
     let table = sign::read_sign(file).map_err(
         |refused|
             requires { refused.at < 65536 }

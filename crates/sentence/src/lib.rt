@@ -50,14 +50,15 @@ fn words(number: u8) -> &'static [u8]
     }
 }
 
-// The last digit of a number.
+// The last digit of a number; by `as`, which is proved to lose nothing.
 fn digit(n: u16) -> u8
     ensures { result ≡ 48 + n % 10 }
 {
     b'0' + (n % 10) as u8
 }
 
-// A text in a lent buffer, as far as it is written.
+// A text in a lent buffer, as far as it is written: no Vec, since the library has no heap. What `put` writes says crate buffer, for other
+// writers too.
 #[derive(Drop)]
 struct Writer<'a> {
     buffer: &'a mut [u8],
