@@ -6,7 +6,8 @@ use mathlib.Core.List.{List}
 use lib.Dec.{ltb}
 use lib.ListN.{length}
 use borrow.Author.Tests.{ltb-true, ltb-false, lt-ltb, le-ltb}
-use Rattle.std.specs.Prelude.{Ok, Err}
+use Rattle.std.specs.Prelude.{Result, Ok, Err, is_ok}
+use Rattle.std.specs.Result.{MatchResult}
 use Rattle.base.specs.Pick.{pick}
 use Rattle.utf8.specs.Utf8.{well_formed}
 use Rattle.refusal.specs.declared.Refusal.{Refusal}
@@ -14,6 +15,7 @@ use Rattle.refusal.specs.Refusals.{refusal}
 use Rattle.records.specs.declared.Config.{Config}
 use Rattle.sign.specs.Sign.{Font, Sign as Signed, Accepted, RefusedAt, sign_file}
 use Rattle.sign.specs.Given.{content_of, refusal_at, given as table_of}
+use Rattle.sign.specs.declared.RefusedAt.{RefusedAt as RefusedFile}
 use Rattle.sign.specs.declared.SignFile.{SignFile}
 use Rattle.sign.proofs.Answer.{refuses}
 use Rattle.admit.specs.Admission.{Admission, denied, admitted, refusing, admission_on, admission}
@@ -93,6 +95,17 @@ module _ (file msg : List ℕ) where
           look (Accepted c fs) q =
               let made : t ≡ content_of c fs = cc in
               rw (le-ltb 2048 (length msg) s, sym f) (ap Ok made)
+
+-- what was read of the sign file, as `map_err` hands it on
+pub sign_kept : (file : List ℕ) (t : SignFile) (Q : RefusedFile → Type 0) (o : Result SignFile RefusedFile)
+    → MatchResult o (λ x. ◌≡◌ {A = Result SignFile Refusal} (Ok t) (Ok x)) Q → true ≡ is_ok o → o ≡ table_of (sign_file file) → Ok t ≡ table_of (sign_file file)
+sign_kept file t Q (Ok x) h v e = let same : t ≡ x = cc in rw same e
+sign_kept file t Q (Err r) h v e = cc
+
+pub sign_refused : (file msg : List ℕ) (y : Refusal) (P : SignFile → Type 0) (o : Result SignFile RefusedFile)
+    → MatchResult o P (λ r. y ≡ refusal 1 r.at 0 0) → false ≡ is_ok o → o ≡ table_of (sign_file file) → Err y ≡ handed (admission file msg)
+sign_refused file msg y P (Ok x) h v e = cc
+sign_refused file msg y P (Err r) h v e = rw h (bad_sign file msg r.at e)
 
 -- ---- what a caller learns
 

@@ -1,9 +1,10 @@
 // The checks that every call begins with: refusals 1 to 3. A call's own numbers come behind them.
 #![tactic(auto)]
 
-ghost use Rattle.std.specs.Prelude.{◌≡◌};
+ghost use Rattle.std.specs.Prelude.{◌≡◌, ◌<◌};
 ghost use Rattle.admit.specs.Admission.{admission};
 ghost use Rattle.admit.specs.Handed.{handed};
+ghost use Rattle.refusal.specs.Refusals.{refusal};
 
 use refusal::Refusal;
 use sign::SignFile;
@@ -12,16 +13,18 @@ use sign::SignFile;
 pub fn admit(file: &[u8], msg: &[u8]) -> Result<SignFile, Refusal>
     ensures { result ≡ handed (admission file.now msg.now) }
 {
-    // A match and not `map_err`: the proof of the cast in its closure did not close.
-    let table = match sign::read_sign(file) {
-        Ok(table) => table,
-        Err(refused) => {
-            return Err(Refusal {
+    // The start by `as`: a file has at most 65,535 bytes, so that nothing is lost.
+    let table = sign::read_sign(file).map_err(
+        |refused|
+            requires { refused.at < 65536 }
+            ensures { result ≡ refusal 1 refused.at 0 0 }
+        {
+            Refusal {
                 start: refused.at as u16,
                 ..Refusal::of(1)
-            });
-        }
-    };
+            }
+        },
+    )?;
     if 2048 < msg.len() {
         return Err(Refusal::of(2));
     }

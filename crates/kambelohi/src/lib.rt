@@ -1,5 +1,5 @@
 // The calls that C and Rust link, with structs of numbers for answers, since C has no enums with fields: crate kambelohi_c exports them.
-// include/kambelohi.h says the same in C.
+// include/kambelohi.h says the same in C. So `kind` and `number` stay numbers, and what is lent stays a slice.
 #![tactic(auto)]
 
 ghost use Rattle.std.specs.Prelude.{◌≡◌};
@@ -145,7 +145,7 @@ pub struct PlaceAnswer {
     pub spans: u16,
 }
 
-// The numbers of the listing's answer, and the counts.
+// The numbers of the listing's answer, and the counts; kind and number by `as`, since C has 8 bits for them here, and both are proved to fit.
 impl From<Placed> for PlaceAnswer {
     ghost from_gives = { λ p r. r ≡ place_answer p };
 
@@ -261,7 +261,7 @@ impl From<Result<u16, Refusal>> for SentenceAnswer {
     }
 }
 
-// The refusal with these numbers as a sentence in the lent buffer.
+// The refusal with these numbers as a sentence in the lent buffer: C passes no struct.
 pub fn kambelohi_sentence(
     number: u8,
     start: u16,

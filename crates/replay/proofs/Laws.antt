@@ -1,8 +1,9 @@
 -- Pairs of hexadecimal digits, one more at each turn.
-use Rattle.std.proofs.Common.{ℕ, ◌≤◌, ◌≡◌, refl, sym, ◌∙◌, ◌-◌, ap, List, [], ◌∷◌, ◌++◌, length, get_or, take, drop, append-nil, append_assoc, arith}
-use Rattle.std.specs.Prelude.{Option, Some, None}
+use Rattle.std.proofs.Common.{ℕ, ◌≤◌, ◌≡◌, refl, sym, ◌∙◌, ◌-◌, ap, List, [], ◌∷◌, ◌++◌, length, get_or, take, drop, append-nil, append_assoc, arith, Bor}
+use Rattle.std.specs.Prelude.{Option, Some, None, slice_get}
+use Rattle.std.specs.Option.{UnwrapsOrElse, option_map}
 use Rattle.base.specs.Lists.{drop_step, rest_is}
-use Rattle.replay.specs.Text.{pair_of, put_first, pairs_of}
+use Rattle.replay.specs.Text.{words_of, word_of, pair_of, put_first, pairs_of}
 
 -- bytes before those of the rest
 abbrev pub joined : List ℕ → Option (List ℕ) → Option (List ℕ)
@@ -35,3 +36,10 @@ pairs_end xs [] h = rw append-nil
 pairs_end xs (b ∷ s) h = absurd (omega arith)
 
 pub ruleset pair_ways = (joined_none, pairs_more, pairs_end)
+
+-- ---- the words of a line
+
+pub word_is : (line : List ℕ) (n : ℕ) (o : Option (Bor (List ℕ))) (r : Bor (List ℕ)) → option_map (λ x. x.now) o ≡ slice_get (words_of line) n
+    → UnwrapsOrElse o (λ x. x.now ≡ []) r → r.now ≡ word_of line n
+word_is line n (Some x) r found is = rw (is, ← found) refl
+word_is line n None r found is = rw (is, ← found) refl

@@ -1,13 +1,36 @@
 -- What the contracts of the readers cite.
-use Rattle.std.specs.Prelude.{ℕ, ◌+◌, ◌-◌, ◌*◌, List, [], ◌∷◌, Option, Some, None, ltb, leb, eqb, length, get_or}
+use Rattle.std.specs.Prelude.{ℕ, ◌+◌, ◌-◌, ◌*◌, ◌&&◌, Bool, List, [], ◌∷◌, Option, Some, None, ltb, leb, eqb, length, get_or, slice_get, unwrap_or, false}
+use Rattle.std.specs.List.{slice_split, list_all, enumerate_from}
 use Rattle.base.specs.Pick.{pick}
 use Rattle.number.specs.Number.{read_number}
+
+-- the words of a line, parted by spaces, and the one of a number, nothing past the last
+abbrev pub words_of : List ℕ → List (List ℕ)
+words_of line = slice_split (λ b. eqb b 32) line
+
+abbrev pub word_of : List ℕ → ℕ → List ℕ
+word_of line n = unwrap_or (slice_get (words_of line) n) []
 
 -- a decimal number without a sign and without leading zeros
 unfoldable pub plain_number : List ℕ → Option ℕ
 plain_number w =
     pick (eqb (get_or w 0 0) 43) None
     (pick (eqb (get_or w 0 0) 48) (pick (ltb 1 (length w)) None (Some 0)) (read_number 10 4294967295 w))
+
+-- word n of a line as a number
+abbrev pub number_of : List ℕ → ℕ → Option ℕ
+number_of line n = plain_number (word_of line n)
+
+-- whether the first words of a line are numbers, and whether these are all its words
+abbrev pub is_number : Option ℕ → ℕ → Bool
+is_number (Some m) n = eqb m n
+is_number None n = false
+
+abbrev pub starts : List ℕ → List ℕ → Bool
+starts line numbers = list_all (λ p. is_number (number_of line p.0) p.1) (enumerate_from 0 numbers)
+
+abbrev pub is_all : List ℕ → List ℕ → Bool
+is_all line numbers = eqb (length (words_of line)) (length numbers) && starts line numbers
 
 -- the value of a hexadecimal digit in lower case
 unfoldable pub nibble_of : ℕ → Option ℕ

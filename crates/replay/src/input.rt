@@ -88,7 +88,8 @@ impl<'a, R: Read> Input<'a, R> {
         }
     }
 
-    // The next line; None where the input ends as the stream does.
+    // The next line; None where the input ends as the stream does. No Iterator: a line is lent from the buffer up to the next call.
+    // Nothing is promised: no contract can say what a source gives.
     pub fn next(&mut self) -> Result<Option<Line<'_>>, BadStream> {
         let found = self.line_end();
         let line = self.line.saturating_add(1);
@@ -119,7 +120,7 @@ impl<'a, R: Read> Input<'a, R> {
         }))
     }
 
-    // Every line up to the end of the stream, or up to the first at which the turn fails.
+    // Every line up to the end of the stream, or up to the first at which the turn fails. Nothing is promised, as of `next`.
     pub fn each<F: FnMut(&Line) -> Result<(), BadStream>>(
         &mut self,
         mut turn: F,

@@ -7,7 +7,7 @@ mod score;
 mod stream;
 
 ghost use Rattle.std.specs.Prelude.{◌≡◌, ◌+◌, ◌*◌, ◌<◌, ◌≤◌, length, IfSome, OnSome};
-ghost use Rattle.replay.specs.Text.{plain_number, nibble_of, pair_of, digits_in, pairs_of};
+ghost use Rattle.replay.specs.Text.{words_of, word_of, number_of, starts, is_all, plain_number, nibble_of, pair_of, digits_in, pairs_of};
 
 use arrayvec::ArrayVec;
 pub use input::{Input, Line};
@@ -16,14 +16,16 @@ pub use stream::{Kind, Phase, Stream};
 
 // How many words a line has: one more than its spaces.
 pub fn words(line: &[u8]) -> usize
-    ensures { result ≤ length line.now + 1 }
+    ensures count { result ≡ length (words_of line.now) }
+    ensures few { result ≤ length line.now + 1 }
 {
     line.split(|b| *b == b' ').count()
 }
 
 // Word n of a line, counted from 0, or nothing where there are fewer.
 pub fn word(line: &[u8], n: usize) -> &[u8]
-    ensures { length result.now ≤ length line.now }
+    ensures bytes { result.now ≡ word_of line.now n }
+    ensures short { length result.now ≤ length line.now }
 {
     line.split(|b| *b == b' ').nth(n).unwrap_or_default()
 }
@@ -41,20 +43,23 @@ fn plain(word: &[u8]) -> Option<u32>
 }
 
 // Word n of a line as a number.
-pub fn number_at(line: &[u8], n: usize) -> Option<u32> {
+pub fn number_at(line: &[u8], n: usize) -> Option<u32>
+    ensures { result ≡ number_of line.now n }
+{
     plain(word(line, n))
 }
 
 // Whether a line begins with numbers.
-pub fn begins(line: &[u8], numbers: &[u64]) -> bool {
-    numbers
-        .iter()
-        .enumerate()
-        .all(|(k, n)| number_at(line, k).map(u64::from) == Some(*n))
+pub fn begins(line: &[u8], numbers: &[u64]) -> bool
+    ensures { result ≡ starts line.now numbers.now }
+{
+    numbers.iter().enumerate().all(|(k, n)| number_at(line, k).is_some_and(|m| u64::from(m) == *n))
 }
 
 // Whether a line is numbers.
-pub fn is_line(line: &[u8], numbers: &[u64]) -> bool {
+pub fn is_line(line: &[u8], numbers: &[u64]) -> bool
+    ensures { result ≡ is_all line.now numbers.now }
+{
     words(line) == numbers.len() && begins(line, numbers)
 }
 

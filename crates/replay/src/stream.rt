@@ -1,4 +1,8 @@
 // The lines of an answer stream, one after the other: which may come next.
+ghost use Rattle.std.specs.Prelude.{◌≡◌};
+ghost use Rattle.replay.specs.Text.{word_of};
+ghost use Rattle.replay.specs.Kinds.{kind_of};
+
 use crate::{begins, is_line, is_numbers, number_at, word, words};
 
 // A case by its letter. S is a sign file, for the cases that follow.
@@ -41,7 +45,10 @@ pub struct Stream {
 
 impl Kind {
     // The letter that a case line begins with.
-    pub fn of(line: &[u8]) -> Option<Kind> {
+    #[tactic(auto, unfolding(crate::specs::Kinds::kind_of))]
+    pub fn of(line: &[u8]) -> Option<Kind>
+        ensures { result ≡ kind_of (word_of line.now 0) }
+    {
         match word(line, 0) {
             b"D" => Some(Kind::D),
             b"X" => Some(Kind::X),

@@ -67,12 +67,12 @@ impl Replay {
             }
             return self.open(line.text).ok_or(BadStream { line: line.number });
         }
-        let (Some(mut check), Some(file)) = (self.check, &self.file) else {
+        let (Some(check), Some(file)) = (&mut self.check, &self.file) else {
             return Ok(());
         };
         check.listed(line, file.as_slice(), self.msg.as_slice(), &mut self.out);
-        self.check = Some(check);
         if !line.then.is_listing() {
+            let check = *check;
             self.settle(rt, check);
         }
         Ok(())

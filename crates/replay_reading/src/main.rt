@@ -28,22 +28,18 @@ impl Replay {
     fn turn(&mut self, rt: &impl Print, line: &Line) -> Result<(), BadStream> {
         let (was, then) = (line.was.answering(), line.then.answering());
         if was.is_none() {
+            let bad = BadStream { line: line.number };
             let kind = then.filter(|k| KINDS.contains(k));
-            self.check = match kind {
-                None => None,
-                Some(kind) => {
-                    let opened = Check::open(line, kind, &mut self.msg);
-                    Some(opened.ok_or(BadStream { line: line.number })?)
-                }
-            };
+            let opened = kind.map(|kind| Check::open(line, kind, &mut self.msg).ok_or(bad));
+            self.check = opened.transpose()?;
             return Ok(());
         }
-        let Some(mut check) = self.check else {
+        let Some(check) = &mut self.check else {
             return Ok(());
         };
         check.answer(line, self.msg.as_slice());
-        self.check = Some(check);
         if then.is_none() {
+            let check = *check;
             self.settle(rt, check, line);
         }
         Ok(())

@@ -21,7 +21,7 @@ struct Replay {
     score: Score,
 }
 
-// Whether a line is the count of fonts, or refusal 1.
+// Whether a line is the count of fonts, or refusal 1. By `as`: a usize has no From.
 fn is_count(line: &[u8], sign: &Result<SignFile, RefusedAt>) -> bool {
     match sign {
         Ok(sign) => replay::is_line(line, &[sign.count as u64]),
@@ -35,7 +35,7 @@ fn is_font(line: &[u8], row: usize, sign: &Result<SignFile, RefusedAt>) -> bool 
         return false;
     };
     let font = sign.fonts.iter().take(sign.count).nth(row);
-    font.is_some_and(|e| { replay::begins(line, &[u64::from(e.number), u64::from(e.version_id)]) })
+    font.is_some_and(|e| replay::begins(line, &[u64::from(e.number), u64::from(e.version_id)]))
 }
 
 impl Check {
@@ -86,12 +86,12 @@ impl Replay {
         if line.was.answering().is_none() {
             return self.open(line).ok_or(BadStream { line: line.number });
         }
-        let (Some(mut check), Some(sign)) = (self.check, self.sign) else {
+        let (Some(check), Some(sign)) = (&mut self.check, &self.sign) else {
             return Ok(());
         };
-        check.answer(line, &sign);
-        self.check = Some(check);
+        check.answer(line, sign);
         if line.then.answering().is_none() {
+            let check = *check;
             self.settle(rt, check);
         }
         Ok(())

@@ -1,7 +1,7 @@
 // The refusal as an English sentence: document 02, A1.
 #![tactic(auto)]
 
-ghost use Rattle.std.specs.Prelude.{◌≡◌, ◌++◌, ◌+◌, ◌≤◌, ◌<◌, length};
+ghost use Rattle.std.specs.Prelude.{◌≡◌, ◌++◌, ◌+◌, ◌%◌, ◌≤◌, ◌<◌, length};
 ghost use Rattle.buffer.specs.Put.{Put};
 ghost use Rattle.sentence.specs.Words.{words};
 ghost use Rattle.sentence.specs.Sentence.{digit_count, decimal, telling, buffer_after};
@@ -50,7 +50,15 @@ fn words(number: u8) -> &'static [u8]
     }
 }
 
-// A text in a lent buffer, as far as it is written.
+// The last digit of a number; by `as`, which is proved to lose nothing.
+fn digit(n: u16) -> u8
+    ensures { result ≡ 48 + n % 10 }
+{
+    b'0' + (n % 10) as u8
+}
+
+// A text in a lent buffer, as far as it is written: no Vec, since the library has no heap. What `put` writes says crate buffer, for other
+// writers too.
 #[derive(Drop)]
 struct Writer<'a> {
     buffer: &'a mut [u8],
@@ -66,8 +74,8 @@ impl Writer<'_> {
         self.len = buffer::put(self.buffer, self.len, text);
     }
 
-    // A number without leading zeros, from its last digit on.
-    #[tactic(auto, using(crate::proofs::Laws::count_start))]
+    // A number without leading zeros: the last of its five digits.
+    #[tactic(auto, using(crate::proofs::Laws::last_digits))]
     fn put_decimal(&mut self, n: u16)
         requires { self.old.len + 5 ≤ length self.old.buffer.now }
         ensures put { Put self.old.len (decimal n) self.old.buffer.now self.new.buffer.now self.new.len }
@@ -75,13 +83,14 @@ impl Writer<'_> {
         ensures few { self.new.len ≤ self.old.len + 5 }
         ensures small { n < 1000 → self.new.len ≤ self.old.len + 3 }
     {
-        let end = self.len + digit_count(n);
-        let mut m = n;
-        for k in (self.len..end).rev() {
-            self.buffer[k] = b'0' + (m % 10) as u8;
-            m /= 10;
-        }
-        self.len = end;
+        let digits = [
+            digit(n / 10000),
+            digit(n / 1000),
+            digit(n / 100),
+            digit(n / 10),
+            digit(n),
+        ];
+        self.put(&digits[5 - digit_count(n)..]);
     }
 }
 

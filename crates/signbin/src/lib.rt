@@ -8,7 +8,8 @@ use std::fs;
 use std::io::Read;
 use std::rt::Files;
 
-// Reads until the buffer is full, the input ends or a read fails: the bytes that came.
+// Reads until the buffer is full, the input ends or a read fails: the bytes that came. No `read_exact`, which does not tell how many came
+// where there are fewer, nor `read_to_end`, which wants a Vec.
 pub fn read_full<'a>(input: &mut impl Read, buf: &'a mut [u8]) -> &'a [u8]
     ensures { length result.now ≤ length buf.old }
 {
@@ -29,7 +30,8 @@ pub fn load<'a>(rt: &impl Files, buf: &'a mut [u8]) -> &'a [u8]
     }
 }
 
-// The line of a refusal: number, start, length and detail. A write that fails is passed over.
+// The line of a refusal: number, start, length and detail. A write that fails is passed over. No Display: Refusal is another crate's, and
+// its text is the sentence.
 pub fn print_refusal(rt: &impl Print, r: Refusal) {
     let _ = println!(rt;
         "refused {} {} {} {}",

@@ -16,7 +16,7 @@ fn print_span(rt: &impl Print, s: &Span) {
     );
 }
 
-// An answer, and its records of all.
+// An answer, and its records of all. Its kind is C's number: 1 on, 2 off.
 fn print_answer(rt: &impl Print, s: &Shown, all: &[Span]) {
     if s.kind != 1 {
         let _ = println!(rt; "off {}", s.duration);
