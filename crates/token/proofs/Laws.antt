@@ -5,7 +5,9 @@ use Rattle.std.specs.List.{position, position_or_len}
 use Rattle.std.proofs.lemmas.List.Sums.{prefix_len-le-length}
 use Rattle.std.proofs.lemmas.List.Recursion.{is_position_or_len}
 use native.Mathlib.Nat.{add-sub_cancel_left}
+use Rattle.std.specs.List.{All}
 use Rattle.std.proofs.lemmas.List.{length-take-le}
+use Rattle.std.proofs.lemmas.List.Elements.{All-nil, All-cons}
 use borrow.Author.Tests.{eqb-true, ltb-true, ltb-false}
 use lib.Dec.{eqb, ltb}
 use lib.ListN.{take-append-drop, drop_of_length-le}
@@ -183,6 +185,23 @@ module _ (at : ℕ) (l : List ℕ) (s : Slice) (ss : List Slice) (e : slices_fro
 
   pub first_rest : ss ≡ slices_from (at + len) l
   first_rest = let h = both in cc
+
+-- each slice ends within the message
+abbrev pub EndsBy : ℕ → Slice → Type 0
+EndsBy n s = s.start + length s.bytes ≤ n
+
+cuts_within : (n at k : ℕ) (l : List ℕ) → at + length l ≤ n → All (EndsBy n) (cuts at k l)
+cuts_within n at k [] h = All-nil (EndsBy n)
+cuts_within n at zero (b ∷ l) h =
+    All-cons (EndsBy n) _ _ (omega (arith, length-take-le (rest_len b l) l (rest_le b l), rest_le b l)) (cuts_within n (suc at) (rest_len b l) l (omega arith))
+cuts_within n at (suc k) (b ∷ l) h = cuts_within n (suc at) k l (omega arith)
+
+pub slices_within : (n at : ℕ) (l : List ℕ) → length l ≤ n → All (EndsBy n) (slices_from at l)
+slices_within n at l h = go (ltb at (length l)) refl
+  where
+    go : (t : Bool) → ltb at (length l) ≡ t → All (EndsBy n) (slices_from at l)
+    go true e = cuts_within n at 0 (drop at l) (omega (arith, ltb-true at (length l) e, length-drop at l))
+    go false e = rw (cuts_end at l (ltb-false at (length l) e)) (All-nil (EndsBy n))
 
 -- ---- after a text comes a bracket, or the end
 
