@@ -57,7 +57,8 @@ pub enum Mark {
     Timed(Option<u16>, Option<u16>),
 }
 
-// A page's times, and its first failing slice.
+// A page's times, and its first failing slice. No Result: the event that closes the page before takes the times, also where the fault follows (`follow` in
+// specs/Read.antt).
 #[derive(Clone, Copy)]
 pub struct Scan {
     pub on: u16,

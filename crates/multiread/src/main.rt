@@ -3,38 +3,12 @@
 // Long times hold if sign.bin in the current folder is a sign file that has them. A write that fails is passed over.
 #![tactic(auto)]
 
-ghost use Rattle.std.specs.Prelude.{◌-◌, length};
-ghost use Rattle.std.specs.Iterator.{at_most};
-
 use numbers::Numbers;
 use reading::Reading;
 use refusal::Refusal;
 use std::rt::Files;
+use token::Slices;
 use value::{Place, Value};
-
-// The places where slices of a message start, from one on.
-#[derive(Drop)]
-struct Starts<'a> {
-    msg: &'a [u8],
-    at: usize,
-}
-
-impl Iterator for Starts<'_> {
-    type Item = usize;
-
-    ghost remaining = { λ s. at_most (length s.msg.now - s.at) };
-
-    #[tactic(auto, using(token::proofs::Laws::next_more))]
-    fn next(&mut self) -> Option<usize> {
-        let at = self.at;
-        if at < self.msg.len() {
-            self.at = token::slice_end(self.msg, at);
-            Some(at)
-        } else {
-            None
-        }
-    }
-}
 
 fn print_slice(rt: &impl Print, p: Place, v: Value) {
     let said = Numbers::from(v);
@@ -47,7 +21,7 @@ fn print_slice(rt: &impl Print, p: Place, v: Value) {
 
 // Prints every slice of a message, or why it is refused as a whole.
 fn print_all(rt: &impl Print, msg: &[u8], long: bool) {
-    for at in (Starts { msg, at: 0 }) {
+    for (at, _) in Slices::new(msg, 0) {
         match reading::read(msg, at, long) {
             Reading::Slice(p, v) => print_slice(rt, p, v),
             Reading::End => break,

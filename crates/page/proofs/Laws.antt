@@ -1,13 +1,11 @@
 -- The scan's ways on and out.
-use Prim.Native.Nat.{ℕ, ◌+◌, ◌-◌, ◌≤◌, ◌<◌}
-use mathlib.Core.Path.{◌≡◌, sym, ◌∙◌, ap}
-use mathlib.Core.List.{List, map}
-use lib.ListN.{length, take, drop}
+use Rattle.std.proofs.Common.{ℕ, ◌+◌, ◌≤◌, ◌≡◌, refl, sym, ◌∙◌, List, [], ◌∷◌, map, length, All, Bor}
 use Rattle.std.specs.Prelude.{None, Result, Ok, Err, unwrap_or}
+use Rattle.std.proofs.lemmas.List.Elements.{All-head, All-rest}
 use Rattle.std.specs.declared.ops.ControlFlow.{ControlFlow}
 use Rattle.std.specs.declared.ops.ControlFlow.TheVariants.{Continue, Break}
-use Rattle.token.specs.Token.{slice_len}
-use Rattle.token.proofs.Laws.{cuts_next, cuts_end, next_le, next_from, next_less}
+use Rattle.token.specs.Token.{Slice, slice_at, slices_from}
+use Rattle.token.proofs.Laws.{EndsBy, slices_within}
 use Rattle.value.specs.declared.SyntaxError.{SyntaxError}
 use Rattle.reading.specs.Reading.{place}
 use Rattle.records.specs.declared.Config.{Config}
@@ -16,44 +14,67 @@ use Rattle.layout.specs.declared.Mark.TheVariants.{Plain, Ends, Timed}
 use Rattle.layout.specs.declared.Scan.{Scan}
 use Rattle.layout.specs.Types.{Item, item_at}
 use Rattle.layout.specs.Read.{mark_item, scan_by, scan}
-use Rattle.page.specs.Scan.{look_by, look_at, items_from}
+use Rattle.page.specs.declared.Times.{Times}
+use Rattle.page.specs.Scan.{end_of, look_by, look_at, items_from}
 
 -- one item
-module _ (c : Config) (a b : ℕ) (it : Item) (next : ℕ → ℕ → Scan) where
-  stop_mark : (m : Result Mark SyntaxError) (s : Scan) → look_by c a b (place it.start it.len) m ≡ Break s → s ≡ scan_by c a b it m next
+module _ (c : Config) (t : Times) (it : Item) (next : ℕ → ℕ → Scan) where
+  stop_mark : (m : Result Mark SyntaxError) (s : Scan) → look_by c t (place it.start it.len) m ≡ Break s → s ≡ scan_by c t.on t.off it m next
   stop_mark (Ok Plain) s e = cc
   stop_mark (Ok Ends) s e = cc
   stop_mark (Ok (Timed p q)) s e = cc
   stop_mark (Err n) s e = cc
 
-  on_mark : (m : Result Mark SyntaxError) (z : ℕ × ℕ) → look_by c a b (place it.start it.len) m ≡ Continue z → next z.0 z.1 ≡ scan_by c a b it m next
+  on_mark : (m : Result Mark SyntaxError) (z : Times) → look_by c t (place it.start it.len) m ≡ Continue z → next z.on z.off ≡ scan_by c t.on t.off it m next
   on_mark (Ok Plain) z e =
-      let k : z ≡ (a, b) = cc in
+      let k : z ≡ t = cc in
       rw k
   on_mark (Ok Ends) z e = cc
   on_mark (Ok (Timed x y)) z e =
-      let k : z ≡ (unwrap_or x c.on_time, unwrap_or y c.off_time) = cc in
+      let k : z ≡ record { on = unwrap_or x c.on_time; off = unwrap_or y c.off_time } = cc in
       rw k
   on_mark (Err n) z e = cc
 
--- the slice from a place to r, where `slice_end` ended it; t is what `look_at` answered
-module _ (c : Config) (a b at : ℕ) (l : List ℕ) (h : at < length l) (r : ℕ) (e : r ≡ at + slice_len (drop at l))
-    (t : ControlFlow Scan (ℕ × ℕ)) (f : t ≡ look_at c a b at (take (r - at) (drop at l))) where
-  abbrev here : Item
-  here = item_at c (record { start = at; bytes = take (r - at) (drop at l) })
+-- the scan of the slices that are left
+abbrev pub scan_left : Config → Times → List Slice → Scan
+scan_left c t ss = scan c t.on t.off (map (item_at c) ss)
 
-  whole : scan c a b (items_from c at l) ≡ scan_by c a b here (mark_item c.tags here.says) (λ p q. scan c p q (items_from c r l))
-  unfolding items_from
-  whole = ap (λ s. scan c a b (map (item_at c) s)) (cuts_next at l h r e)
+-- the loop of `scan`: with the times so far, the slices that are left have the scan of the page, and each ends within the message
+unfoldable pub Going : Config → Scan → Times → List Slice → Type 0
+Going c of t ss = (scan_left c t ss ≡ of) × All (EndsBy 2048) ss
 
-  pub scan_stop : (s : Scan) → t ≡ Break s → s ≡ scan c a b (items_from c at l)
-  scan_stop s p = stop_mark c a b here _ (mark_item c.tags here.says) s (sym f ∙ p) ∙ sym whole
+pub going_start : (c : Config) (t : Times) (from : ℕ) (msg : List ℕ) (ss : List Slice) → ss ≡ slices_from from msg → length msg ≤ 2048
+    → Going c (scan c t.on t.off (items_from c from msg)) t ss
+unfolding Going items_from
+going_start c t from msg ss e h = rw e (refl, slices_within 2048 from msg h)
 
-  pub scan_on : (p q : ℕ) → t ≡ Continue (p, q) → scan c p q (items_from c r l) ≡ scan c a b (items_from c at l)
-  scan_on p q k = on_mark c a b here (λ p q. scan c p q (items_from c r l)) (mark_item c.tags here.says) (p, q) (sym f ∙ k) ∙ sym whole
+-- the slice of the bytes s at a place is the first of those left
+module _ (c : Config) (of : Scan) (t : Times) (at : ℕ) (s : Bor (List ℕ)) (ss all : List Slice) where
+  abbrev it : Item
+  it = item_at c (slice_at (at, s))
 
-pub scan_end : (c : Config) (a b at : ℕ) (l : List ℕ) → length l ≤ at → record { on = a; off = b; fault = None } ≡ scan c a b (items_from c at l)
-unfolding items_from
-scan_end c a b at l h = rw (cuts_end at l h)
+  abbrev says : Result Mark SyntaxError
+  says = mark_item c.tags it.says
 
-pub ruleset scan_ways = (scan_on, scan_end, next_le, next_from, next_less)
+  abbrev next : ℕ → ℕ → Scan
+  next p q = scan c p q (map (item_at c) ss)
+
+  pub going_ends : all ≡ slice_at (at, s) ∷ ss → Going c of t all → at + length s.now ≤ 2048
+  unfolding Going
+  going_ends e g = All-head (EndsBy 2048) (slice_at (at, s)) ss (rw e at g.1)
+
+  -- r is what `look_at` answers of it
+  module _ (r : ControlFlow Scan Times) where
+    pub going_stop : (x : Scan) → r ≡ Break x → r ≡ look_at c t at s.now → all ≡ slice_at (at, s) ∷ ss → Going c of t all → x ≡ of
+    unfolding Going
+    going_stop x k f e g = stop_mark c t it next says x (sym f ∙ k) ∙ (rw e at g.0)
+
+    pub going_on : (z : Times) → r ≡ Continue z → r ≡ look_at c t at s.now → all ≡ slice_at (at, s) ∷ ss → Going c of t all → Going c of z ss
+    unfolding Going
+    going_on z k f e g = (on_mark c t it next says z (sym f ∙ k) ∙ (rw e at g.0), All-rest (EndsBy 2048) (slice_at (at, s)) ss all e g.1)
+
+pub going_end : (c : Config) (of : Scan) (t : Times) (all : List Slice) → all ≡ [] → Going c of t all → end_of t None ≡ of
+unfolding Going
+going_end c of t all e g = rw e at g.0
+
+pub ruleset scan_ways = (going_start, going_ends, going_on, going_end)

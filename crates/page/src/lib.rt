@@ -4,11 +4,13 @@
 ghost use Rattle.std.specs.Prelude.{◌≡◌, ◌+◌, ◌≤◌, length};
 ghost use Rattle.layout.specs.Read.{tagged as tagged_of, mark_of, mark_item, scan as scan_of};
 ghost use Rattle.page.specs.State.{new_page, done_after, next_state};
-ghost use Rattle.page.specs.Scan.{look_by, look_at, items_from};
+ghost use Rattle.page.specs.Scan.{end_of, look_by, look_at, items_from};
 
 use layout::{Mark, Scan};
 use records::Config;
+use refusal::Refusal;
 use std::ops::ControlFlow;
+use token::Slices;
 use value::{Place, SyntaxError, Value};
 
 // A tag needs its name's bit in the sign's tags.
@@ -39,72 +41,72 @@ fn mark_item(tags: u32, item: Result<Value, SyntaxError>) -> Result<Mark, Syntax
     mark_of(tags, item?)
 }
 
+// The times of a page, on and off.
+#[derive(Clone, Copy)]
+pub struct Times {
+    pub on: u16,
+    pub off: u16,
+}
+
+impl Times {
+    // The scan that ends with them.
+    fn end(self, fault: Option<Refusal>) -> Scan
+        ensures { result ≡ end_of self fault }
+    {
+        Scan {
+            on: self.on,
+            off: self.off,
+            fault,
+        }
+    }
+}
+
 // The times after an item at a place, or the scan's end.
 fn look_by(
     c: Config,
-    on: u16,
-    off: u16,
+    times: Times,
     p: Place,
     m: Result<Mark, SyntaxError>,
-) -> ControlFlow<Scan, (u16, u16)>
-    ensures { result ≡ look_by c on off p m }
+) -> ControlFlow<Scan, Times>
+    ensures { result ≡ look_by c times p m }
 {
     match m {
-        Ok(Mark::Plain) => ControlFlow::Continue((on, off)),
-        Ok(Mark::Ends) => ControlFlow::Break(Scan {
-            on,
-            off,
-            fault: None,
+        Ok(Mark::Plain) => ControlFlow::Continue(times),
+        Ok(Mark::Ends) => ControlFlow::Break(times.end(None)),
+        Ok(Mark::Timed(a, b)) => ControlFlow::Continue(Times {
+            on: a.unwrap_or(u16::from(c.on_time)),
+            off: b.unwrap_or(u16::from(c.off_time)),
         }),
-        Ok(Mark::Timed(a, b)) => ControlFlow::Continue((
-            a.unwrap_or(u16::from(c.on_time)),
-            b.unwrap_or(u16::from(c.off_time)),
-        )),
-        Err(e) => ControlFlow::Break(Scan {
-            on,
-            off,
-            fault: Some(layout::refusal_at(p, e.number())),
-        }),
+        Err(e) => ControlFlow::Break(times.end(Some(layout::refusal_at(p, e.number())))),
     }
 }
 
 // What the slice s, which starts at a place, makes of the times. The casts are proved; try_from would add an error that no call gives.
-fn look_at(s: &[u8], at: usize, c: Config, on: u16, off: u16) -> ControlFlow<Scan, (u16, u16)>
+fn look_at(s: &[u8], at: usize, c: Config, times: Times) -> ControlFlow<Scan, Times>
     requires { at + length s.now ≤ 2048 }
-    ensures { result ≡ look_at c on off at s.now }
+    ensures { result ≡ look_at c times at s.now }
 {
     let m = mark_item(c.tags, reading::item_of(at, s, c.long_times));
     let p = Place {
         start: at as u16,
         len: s.len() as u16,
     };
-    look_by(c, on, off, p, m)
+    look_by(c, times, p, m)
 }
 
 // The scan of a page from a place of the message on, up to and including [np].
 #[tactic(auto, using(crate::proofs::Laws::scan_ways))]
-pub fn scan(msg: &[u8], from: usize, c: Config, mut on: u16, mut off: u16) -> Scan
+pub fn scan(msg: &[u8], from: usize, c: Config, mut times: Times) -> Scan
     requires { length msg.now ≤ 2048 }
-    ensures { result ≡ scan_of c on off (items_from c from msg.now) }
+    ensures { result ≡ scan_of c times.on times.off (items_from c from msg.now) }
 {
-    let mut at = from;
-    // A step is a slice, not a byte: where it ends its bytes say.
-    while at < msg.len() {
-        let end = token::slice_end(msg, at);
-        match look_at(&msg[at..end], at, c, on, off) {
-            ControlFlow::Break(s) => return s,
-            ControlFlow::Continue((p, q)) => {
-                on = p;
-                off = q;
-            }
+    for (at, s) in Slices::new(msg, from) {
+        match look_at(s, at, c, times) {
+            ControlFlow::Continue(next) => times = next,
+            ControlFlow::Break(end) => return end,
         }
-        at = end;
     }
-    Scan {
-        on,
-        off,
-        fault: None,
-    }
+    times.end(None)
 }
 
 // A page that is on or off, with whether more pages follow, or all pages done.

@@ -80,7 +80,7 @@ after_weight true b = new_weight (ltb 0 b)
 after_weight false b = done_weight (ltb 0 b)
 
 module _ {call : Call} {p : Pages} {rows : List Row} {out : List Span} (asked : NextAsked call p rows out)
-    {q : Scan} (e : q ≡ scan call.table.config p.on p.off (items_in call p.at)) where
+    {q : Scan} (e : q ≡ scan call.table.config p.times.on p.times.off (items_in call p.at)) where
   abbrev s : Board
   s = board_of call
 
@@ -88,13 +88,13 @@ module _ {call : Call} {p : Pages} {rows : List Row} {out : List Span} (asked : 
   its = items_in call p.at
 
   pub on_stop : {x : Refusal} → q.fault ≡ Some x → OnRead call p rows out p rows out (Err x)
-  on_stop h = record { ends = on_refused s its p.on p.off p.render_state e h; next = tt; rowed = refl; room = refl }
+  on_stop h = record { ends = on_refused s its p.times.on p.times.off p.render_state e h; next = tt; rowed = refl; room = refl }
 
   -- a page ended so
   module _ {rows' : List Row} {out' : List Span} {v : Result PageDone Refusal} (h : q.fault ≡ None)
       (t : PageRendered call p.at p.render_state rows out rows' out' v) where
-    tells : {u : Result PageDone Refusal} → v ≡ u → turned s its p.on p.off p.render_state ≡ page_told s call.msg.now q.on q.off out' u
-    tells g = on_run s its p.on p.off p.render_state e h ∙ t.ends q.on q.off ∙ ap (page_told s call.msg.now q.on q.off out') g
+    tells : {u : Result PageDone Refusal} → v ≡ u → turned s its p.times.on p.times.off p.render_state ≡ page_told s call.msg.now q.on q.off out' u
+    tells g = on_run s its p.times.on p.times.off p.render_state e h ∙ t.ends q.on q.off ∙ ap (page_told s call.msg.now q.on q.off out') g
 
     pub on_refuse : {x : Refusal} → v ≡ Err x → OnRead call p rows out p rows' out' (Err x)
     on_refuse g = record { ends = tells g; next = tt; rowed = t.rowed; room = t.room }

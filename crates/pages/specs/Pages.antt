@@ -130,7 +130,7 @@ pub record PageRendered (call : Call) (from : ℕ) (first : RenderState) (rows :
 -- ---- an answer
 
 abbrev pub pages_at : ℕ → RenderState → ℕ → ℕ → PageState → Pages
-pages_at at st a b p = record { at = at; render_state = st; on = a; off = b; page_state = p }
+pages_at at st a b p = record { at = at; render_state = st; times = record { on = a; off = b }; page_state = p }
 
 -- on or off after an on page with the off time b
 abbrev pub state_after : Bool → ℕ → PageState
@@ -138,10 +138,10 @@ state_after more b = pick more (new_state (ltb 0 b)) (done_after (ltb 0 b))
 
 -- an off page, and what it leaves
 abbrev pub off_shown : Pages → PageShown
-off_shown p = record { on = false; duration = p.off; count = 0; looked = 0 }
+off_shown p = record { on = false; duration = p.times.off; count = 0; looked = 0 }
 
 abbrev pub off_left : Pages → Pages
-off_left p = pages_at p.at p.render_state p.on p.off (next_state p.page_state)
+off_left p = pages_at p.at p.render_state p.times.on p.times.off (next_state p.page_state)
 
 -- before the first answer
 abbrev pub first_of : Config → Pages
@@ -149,9 +149,9 @@ first_of c = pages_at 0 (start c) c.on_time c.off_time (OnState true)
 
 -- the answers that are still to come
 abbrev pub todo_by : Board → List ℕ → Pages → PageState → List Page
-todo_by s msg p (OnState b) = turned s (items_from s.config p.at msg) p.on p.off p.render_state
-todo_by s msg p (OffState true) = off p.off ∷ turned s (items_from s.config p.at msg) p.on p.off p.render_state
-todo_by s msg p (OffState false) = off p.off ∷ []
+todo_by s msg p (OnState b) = turned s (items_from s.config p.at msg) p.times.on p.times.off p.render_state
+todo_by s msg p (OffState true) = off p.times.off ∷ turned s (items_from s.config p.at msg) p.times.on p.times.off p.render_state
+todo_by s msg p (OffState false) = off p.times.off ∷ []
 todo_by s msg p Done = []
 
 abbrev pub todo : Board → List ℕ → Pages → List Page
@@ -204,7 +204,7 @@ pub record NextAsked (call : Call) (p : Pages) (rows : List Row) (out : List Spa
 pub record OnRead (call : Call) (p : Pages) (rows : List Row) (out : List Span) (p' : Pages) (rows' : List Row) (out' : List Span)
     (r : Result PageShown Refusal) : Type 0 where
   pub ends :
-      turned (board_of call) (items_in call p.at) p.on p.off p.render_state ≡ on_told (board_of call) call.msg.now out' p' r
+      turned (board_of call) (items_in call p.at) p.times.on p.times.off p.render_state ≡ on_told (board_of call) call.msg.now out' p' r
   pub next : IfOk r (Advances call out' p.at 2 p')
   pub rowed : length rows' ≡ length rows
   pub room : length out' ≡ length out

@@ -8,7 +8,7 @@ ghost use Rattle.pages.specs.Pages.{RenderAsked, PassRendered, page_done, PageRe
 
 use layout::{RenderState, Span};
 use meter::Call;
-use page::PageState;
+use page::{PageState, Times};
 use pass::{How, PassDone, Reached};
 use records::Config;
 use refusal::Refusal;
@@ -29,8 +29,7 @@ pub struct PageDone {
 pub struct Pages {
     pub at: usize,
     pub render_state: RenderState,
-    pub on: u16,
-    pub off: u16,
+    pub times: Times,
     pub page_state: PageState,
 }
 
@@ -133,8 +132,10 @@ impl Pages {
         Pages {
             at: 0,
             render_state,
-            on: u16::from(c.on_time),
-            off: u16::from(c.off_time),
+            times: Times {
+                on: u16::from(c.on_time),
+                off: u16::from(c.off_time),
+            },
             page_state: PageState::On(true),
         }
     }
@@ -149,7 +150,7 @@ impl Pages {
         requires { NextAsked call.now self.old rows.old out.old }
         ensures { OnRead call.now self.old rows.old out.old self.new rows.new out.new result }
     {
-        let s = page::scan(call.msg, self.at, call.table.config, self.on, self.off);
+        let s = page::scan(call.msg, self.at, call.table.config, self.times);
         if let Some(r) = s.fault {
             return Err(r);
         }
@@ -158,8 +159,10 @@ impl Pages {
         *self = Pages {
             at: p.at,
             render_state: p.state,
-            on: s.on,
-            off: s.off,
+            times: Times {
+                on: s.on,
+                off: s.off,
+            },
             page_state: state_after(d.more, s.off),
         };
         Ok(PageShown {
@@ -178,7 +181,7 @@ impl Pages {
         self.page_state = self.page_state.next_state();
         PageShown {
             on: false,
-            duration: self.off,
+            duration: self.times.off,
             count: 0,
             looked: 0,
         }

@@ -5,13 +5,16 @@ use Rattle.std.specs.List.{position, position_or_len}
 use Rattle.std.proofs.lemmas.List.Sums.{prefix_len-le-length}
 use Rattle.std.proofs.lemmas.List.Recursion.{is_position_or_len}
 use native.Mathlib.Nat.{add-sub_cancel_left}
-use borrow.Author.Tests.{eqb-true, ltb-false}
-use lib.Dec.{eqb}
+use Rattle.std.specs.List.{All}
+use Rattle.std.proofs.lemmas.List.{length-take-le}
+use Rattle.std.proofs.lemmas.List.Elements.{All-nil, All-cons}
+use borrow.Author.Tests.{eqb-true, ltb-true, ltb-false}
+use lib.Dec.{eqb, ltb}
 use lib.ListN.{take-append-drop, drop_of_length-le}
 use lib.Seq.{drop-drop}
 use Rattle.base.specs.Pick.{pick, picks}
 use Rattle.base.specs.Lists.{drop_step, inside}
-use Rattle.token.specs.Token.{plain_len, tag_len, rest_len, slice_len, Slice, cuts, slices, joined}
+use Rattle.token.specs.Token.{plain_len, tag_len, rest_len, slice_len, Slice, cuts, slices, slices_from, joined}
 
 -- ---- the search for a bracket
 
@@ -147,6 +150,58 @@ module _ (at : ℕ) (l : List ℕ) (h : at < length l) (r : ℕ) (e : r ≡ at +
 
   pub next_less : length l - r < length l - at
   next_less = omega (arith, next_more)
+
+pub ruleset slices_ways = (cuts_next, cuts_end, next_le, next_from, next_more)
+
+-- for a loop over the slices from at on: s is the first, and ss are those that follow
+module _ (at : ℕ) (l : List ℕ) (s : Slice) (ss : List Slice) (e : slices_from at l ≡ s ∷ ss) where
+  -- one starts there
+  pub first_inside : at < length l
+  first_inside = go (ltb at (length l)) refl
+    where
+      go : (t : Bool) → ltb at (length l) ≡ t → at < length l
+      go true h = ltb-true at (length l) h
+      go false h =
+          let none : [] ≡ s ∷ ss = sym (cuts_end at l (ltb-false at (length l) h)) ∙ e in
+          absurd cc
+
+  abbrev len : ℕ
+  len = slice_len (drop at l)
+
+  both : record { start = at; bytes = take len (drop at l) } ∷ slices_from (at + len) l ≡ s ∷ ss
+  both = sym (rw (add-sub_cancel_left at len) at (cuts_next at l first_inside (at + len) refl)) ∙ e
+
+  pub first_is : s ≡ record { start = at; bytes = take len (drop at l) }
+  first_is = let h = both in cc
+
+  pub first_start : s.start ≡ at
+  first_start = ap (λ (x : Slice). x.start) first_is
+
+  pub first_bytes : s.bytes ≡ take len (drop at l)
+  first_bytes = ap (λ (x : Slice). x.bytes) first_is
+
+  pub first_len : length s.bytes ≡ len
+  first_len = ap length first_bytes ∙ length-take-le len (drop at l) (slice_le (drop at l))
+
+  pub first_rest : ss ≡ slices_from (at + len) l
+  first_rest = let h = both in cc
+
+-- each slice ends within the message
+abbrev pub EndsBy : ℕ → Slice → Type 0
+EndsBy n s = s.start + length s.bytes ≤ n
+
+cuts_within : (n at k : ℕ) (l : List ℕ) → at + length l ≤ n → All (EndsBy n) (cuts at k l)
+cuts_within n at k [] h = All-nil (EndsBy n)
+cuts_within n at zero (b ∷ l) h =
+    All-cons (EndsBy n) _ _ (omega (arith, length-take-le (rest_len b l) l (rest_le b l), rest_le b l)) (cuts_within n (suc at) (rest_len b l) l (omega arith))
+cuts_within n at (suc k) (b ∷ l) h = cuts_within n (suc at) k l (omega arith)
+
+pub slices_within : (n at : ℕ) (l : List ℕ) → length l ≤ n → All (EndsBy n) (slices_from at l)
+slices_within n at l h = go (ltb at (length l)) refl
+  where
+    go : (t : Bool) → ltb at (length l) ≡ t → All (EndsBy n) (slices_from at l)
+    go true e = cuts_within n at 0 (drop at l) (omega (arith, ltb-true at (length l) e, length-drop at l))
+    go false e = rw (cuts_end at l (ltb-false at (length l) e)) (All-nil (EndsBy n))
 
 -- ---- after a text comes a bracket, or the end
 

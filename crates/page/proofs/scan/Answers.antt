@@ -1,6 +1,5 @@
-use mathlib.Core.Path.{◌∙◌}
-use Rattle.page.proofs.Laws.{scan_stop}
+use Rattle.page.proofs.Laws.{going_stop}
 use Rattle.page.proofs.scan.Goals as goal
 
 pub returns-in-Break : goal.returns-in-Break
-returns-in-Break c = scan_stop _ _ _ _ _ c.loop-at-test.true _ c.slice_end-end.ensures _ c.look_at.ensures _ c.in-Break.is ∙ c.loop-at.invariant
+returns-in-Break c = going_stop c.args.c _ c.loop-at.times _ c.in-Some.s _ _ _ _ c.in-Break.is c.look_at.ensures c.in-Some.ensures.steps c.loop-at.invariant

@@ -1,13 +1,9 @@
-use Prim.Native.Nat.{◌-◌}
-use mathlib.Core.Path.{◌≡◌}
-use lib.ListN.{length}
 use Rattle.layout.specs.Read.{scan}
+use Rattle.token.specs.Token.{slices_from}
 use Rattle.page.specs.Scan.{items_from}
+use Rattle.page.proofs.Laws.{Going}
 use Rattle.page.proofs.scan.Given as goal
 
--- the scan from here on, with the times here, is the scan of the page
 abbrev pub invariant-loop-at : goal.invariant-loop-at
-invariant-loop-at l = scan l.c l.on l.off (items_from l.c l.at l.msg) ≡ scan l.c l.fn.on l.fn.off (items_from l.c l.from l.msg)
-
-abbrev pub decreases-loop-at : goal.decreases-loop-at
-decreases-loop-at l = length l.msg - l.at
+invariant-loop-at l =
+    Going l.c (scan l.c l.fn.times.on l.fn.times.off (items_from l.c l.from l.msg)) l.times (slices_from l.at-iterator.at l.at-iterator.msg.now)
