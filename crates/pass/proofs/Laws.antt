@@ -1,8 +1,7 @@
 -- The ways on and out of a pass.
 use Rattle.std.proofs.lemmas.List.Sums.{sum_by-cons}
-use Rattle.std.specs.Prelude.{sum_by, Option, Some, None, IfSome, Result, Ok, Err, not}
-use Rattle.std.specs.Option.{option_eq}
-use Rattle.std.proofs.lemmas.Bool.{eqb-true, not-false}
+use Rattle.std.specs.Prelude.{sum_by, Option, Some, None, Result, Ok, Err}
+use Rattle.std.proofs.lemmas.Bool.{eqb-true}
 use Prim.Native.Nat.{ℕ, ◌+◌, ◌-◌, ◌%◌, ◌≤◌, ◌<◌}
 use mathlib.Core.Path.{◌≡◌, refl, sym, ◌∙◌, ap, subst}
 use mathlib.Core.Bool.{Bool, true, false, ◌&&◌}
@@ -34,14 +33,16 @@ use Rattle.rows.specs.declared.Row.{Row}
 use Rattle.rows.specs.Rows.{rows_of}
 use Rattle.rows.proofs.Laws.{rows_put}
 use Rattle.sign.specs.Sign.{sign_file}
-use Rattle.font.specs.Table.{font_numbered}
+use Rattle.base.specs.Pick.{pick}
+use Rattle.sign.specs.declared.FontEntry.{FontEntry}
+use Rattle.font.specs.Table.{font_numbered, entry_numbered}
+use Rattle.font.specs.declared.FontWidths.{FontWidths}
 use Rattle.counts.specs.Placing.{fonts_in, capitals_in}
 use Rattle.counts.proofs.Laws.{looked_few}
 use Rattle.meter.specs.declared.call.Call.{Call}
-use Rattle.meter.specs.Gauges.{WidthsOf, CodesFit, EntryIn}
+use Rattle.meter.specs.Gauges.{FontIs, WidthsOf, CodesFit, EntryIn}
 use Rattle.pass.specs.declared.How.{How}
 use Rattle.pass.specs.declared.How.TheVariants.{Cut as ByCut, Turn as ByTurn, End as ByEnd}
-use Rattle.pass.specs.declared.Held.{Held}
 use Rattle.pass.specs.declared.PassDone.{PassDone}
 use Rattle.pass.specs.declared.Reached.{Reached}
 use Rattle.pass.specs.Pass.{Ending, ended, entries_by, entries_of, ending_by, ending_of, step_at, start_at, Inside, tag_bytes, items_in, entries_from, ending_from, row_in, looked_in, Sliced, Steps, Holds, Storable, Stored, PassAsked, SpansRead, PassRead}
@@ -59,6 +60,25 @@ fits_inside c r e =
     let (a, d) = and_parts (fits r.left r.width c.width c.char_width) (fits r.top r.height c.height c.char_height) e in
     record { across = fits_most r.left r.width c.width c.char_width a; down = fits_most r.top r.height c.height c.char_height d }
 
+-- ---- the widths of a font
+
+-- an entry that is found has the number
+found_numbered : (n : ℕ) (e : FontEntry) (es : List FontEntry) → entry_numbered n es ≡ Some e → e.number ≡ n
+unfolding entry_numbered
+found_numbered n e [] k = cc
+found_numbered n e (x ∷ es) k = go (eqb x.number n) refl (found_numbered n e es) k
+  where
+    go : (t : Bool) → eqb x.number n ≡ t → (entry_numbered n es ≡ Some e → e.number ≡ n) → pick t (Some x) (entry_numbered n es) ≡ Some e → e.number ≡ n
+    go true a h d =
+        let same : x ≡ e = cc in
+        ap (λ (y : FontEntry). y.number) (sym same) ∙ eqb-true x.number n a
+    go false a h d = h d
+
+-- the widths of the font with a number can be held
+held_widths : (call : Call) (n : ℕ) (held : Option (FontWidths 256)) → WidthsOf call n held → Holds call held
+held_widths call n None k = tt
+held_widths call n (Some w) k = subst (λ (m : ℕ). FontIs call m w) (sym (found_numbered n w.font.entry (take call.table.count call.table.fonts) k.entry)) k
+
 -- ---- the loop
 
 items_end : (c : Config) (at : ℕ) (l : List ℕ) → length l ≤ at → items_from c at l ≡ []
@@ -67,7 +87,7 @@ items_end c at l h = ap (map (item_at c)) (cuts_end at l h)
 
 -- where the loop stands: first is the state it began with, rows₀ the rows
 pub record Stands (call : Call) (from : ℕ) (first : RenderState) (rows₀ rows : List Row)
-    (p : Reached) (blank : Bool) (held : Held) : Type 0 where
+    (p : Reached) (blank : Bool) (held : Option (FontWidths 256)) : Type 0 where
   pub counted : from + p.count ≤ p.at
   pub few : from + p.looked ≤ p.at
   pub within : p.at ≤ length call.msg.now
@@ -85,7 +105,7 @@ pub record Stands (call : Call) (from : ℕ) (first : RenderState) (rows₀ rows
   pub holds : Holds call held
 
 module _ {call : Call} {from : ℕ} {first : RenderState} {rows₀ rows : List Row}
-    {p : Reached} {blank : Bool} {held : Held} (z : Stands call from first rows₀ rows p blank held) where
+    {p : Reached} {blank : Bool} {held : Option (FontWidths 256)} (z : Stands call from first rows₀ rows p blank held) where
   abbrev c : Config
   c = call.table.config
 
@@ -303,17 +323,17 @@ module _ {call : Call} {from : ℕ} {first : RenderState} {rows₀ rows : List R
       later = map f (entries_from call r st' b)
 
       -- no more characters than the slice has bytes
-      looked_here : {held' : Held} {rows' : List Row} {y : ℕ} → Stored call x rows p.count held' rows' y → y ≤ r - at
+      looked_here : {held' : Option (FontWidths 256)} {rows' : List Row} {y : ℕ} → Stored call x rows p.count held' rows' y → y ≤ r - at
       looked_here w =
           rw w.looked
           (looked_few call.msg.now x (capitals_in (sign_file call.file.now)) (font_numbered x.state.font (fonts_in (sign_file call.file.now))) (r - at) shorter (omega (arith, more)))
 
-      pub pass_adds : {held' : Held} {rows' : List Row} {y : ℕ} → Stored call x rows p.count held' rows' y → Val.Fits w64 (p.looked + y)
+      pub pass_adds : {held' : Option (FontWidths 256)} {rows' : List Row} {y : ℕ} → Stored call x rows p.count held' rows' y → Val.Fits w64 (p.looked + y)
       pass_adds w = omega (arith, looked_here w, z.few, more, past, call.small)
 
-      pub pass_emit : {held' : Held} {rows' : List Row} {y : ℕ} → Stored call x rows p.count held' rows' y
+      pub pass_emit : {held' : Option (FontWidths 256)} {rows' : List Row} {y : ℕ} → Stored call x rows p.count held' rows' y
           → Stands call from first rows₀ rows' (record { at = r; count = p.count + 1; looked = p.looked + y; state = st' }) b held'
-      pass_emit {y = y} w =
+      pass_emit {held' = held'} {y = y} w =
           record {
             counted = omega (arith, z.counted, more);
             few = omega (arith, looked_here w, z.few, more);
@@ -328,13 +348,13 @@ module _ {call : Call} {from : ℕ} {first : RenderState} {rows₀ rows : List R
                 ∙ append_assoc (rows_of rows p.count) (f x ∷ []) later
                 ∙ spans_so q;
             sum = omega (arith, w.looked, sum_by-cons (looked_in call) x (entries_from call r st' b), sum_so q);
-            holds = w.holds;
+            holds = held_widths call x.state.font held' w.holds;
           }
 
 module _ {call : Call} {from : ℕ} {first : RenderState} {rows : List Row}
     (asked : PassAsked call from first rows) where
   -- where the loop begins
-  pub pass_start : {q : Reached} {held : Held} → q ≡ start_at from first → held.number ≡ None → Stands call from first rows rows q true held
+  pub pass_start : {q : Reached} {held : Option (FontWidths 256)} → q ≡ start_at from first → held ≡ None → Stands call from first rows rows q true held
   pass_start {held = held} d e =
       subst (λ (q : Reached). Stands call from first rows rows q true held) (sym d)
       (record {
@@ -349,15 +369,3 @@ module _ {call : Call} {from : ℕ} {first : RenderState} {rows : List Row}
         sum = omega arith;
         holds = rw e tt;
       })
-
--- ---- the widths of a font
-
-number_same : (o : Option ℕ) (n : ℕ) → not (option_eq eqb o (Some n)) ≡ false → o ≡ Some n
-number_same None n e = cc
-number_same (Some m) n e = ap (λ (k : ℕ). Some k) (eqb-true m n (not-false (eqb m n) e))
-
-pub held_same : (call : Call) (h : Held) (n : ℕ) {b : Bool} → Holds call h → b ≡ not (option_eq eqb h.number (Some n)) → b ≡ false
-    → (h.number ≡ Some n) × WidthsOf call n h.font
-held_same call h n k d e =
-    let s : h.number ≡ Some n = number_same h.number n (sym d ∙ e) in
-    (s, subst (λ (o : Option ℕ). IfSome o (λ m. WidthsOf call m h.font)) s k)

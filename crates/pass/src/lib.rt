@@ -1,7 +1,7 @@
 // Reading a pass: the values of a message up to [tr], [np] or the end, into rows of measured spans.
 #![tactic(auto)]
 
-ghost use Rattle.std.specs.Prelude.{◌≡◌, Some, None};
+ghost use Rattle.std.specs.Prelude.{◌≡◌};
 ghost use Rattle.meter.specs.Gauges.{WidthsOf};
 ghost use Rattle.pass.specs.Pass.{start_at, Holds, Sliced, Steps, Storable, Stored, PassAsked, PassRead};
 
@@ -77,42 +77,29 @@ fn step_at(
     }
 }
 
-// The number of the font that was measured in last, if any, and that font with its widths, if the sign file has it.
-#[derive(Drop)]
-struct Held<'a> {
-    number: Option<u8>,
-    font: Option<FontWidths<'a, 256>>,
-}
-
-impl<'a> Held<'a> {
-    fn new() -> Held<'a>
-        ensures { result.number ≡ None }
-    {
-        Held {
-            number: None,
-            font: None,
-        }
-    }
-
-    // Takes the widths anew if they are not the font's.
-    fn keep(&mut self, call: &Call<'a>, number: u8)
-        requires { Holds call.now self.old }
-        ensures { (self.new.number ≡ Some number) × WidthsOf call.now number self.new.font }
-    {
-        if self.number != Some(number) {
-            self.number = Some(number);
-            self.font = meter::widths_of(call, number);
-        }
+// Takes the widths of the font with a number, if they are not held. Held is the font that was measured in last, if the sign file has it.
+fn hold<'a>(call: &Call<'a>, number: u8, held: &mut Option<FontWidths<'a, 256>>)
+    requires { Holds call.now held.old }
+    ensures { WidthsOf call.now number held.new }
+{
+    if !matches!(held, Some(widths) if widths.font.entry.number == number) {
+        *held = meter::widths_of(call, number);
     }
 }
 
 // Stores a span's row, and answers how many characters its measure looked up.
-fn store<'a>(call: &Call<'a>, e: Entry, held: &mut Held<'a>, rows: &mut [Row], n: usize) -> usize
+fn store<'a>(
+    call: &Call<'a>,
+    e: Entry,
+    held: &mut Option<FontWidths<'a, 256>>,
+    rows: &mut [Row],
+    n: usize,
+) -> usize
     requires { Storable call.now e held.old rows.old n }
     ensures { Stored call.now e rows.old n held.new rows.new result }
 {
-    held.keep(call, e.state.font);
-    let (row, looked) = meter::row_of(call, &held.font, e);
+    hold(call, e.state.font, held);
+    let (row, looked) = meter::row_of(call, held, e);
     rows[n] = row;
     looked
 }
@@ -129,7 +116,7 @@ pub fn read_pass(
 {
     let mut p = Reached::start(from, start);
     let mut blank = true;
-    let mut held = Held::new();
+    let mut held: Option<FontWidths<256>> = None;
     // A step is a slice: where it ends its bytes say.
     let how = loop {
         if p.at == call.msg.len() {
