@@ -5,13 +5,14 @@ use Rattle.std.specs.List.{position, position_or_len}
 use Rattle.std.proofs.lemmas.List.Sums.{prefix_len-le-length}
 use Rattle.std.proofs.lemmas.List.Recursion.{is_position_or_len}
 use native.Mathlib.Nat.{add-sub_cancel_left}
-use borrow.Author.Tests.{eqb-true, ltb-false}
-use lib.Dec.{eqb}
+use Rattle.std.proofs.lemmas.List.{length-take-le}
+use borrow.Author.Tests.{eqb-true, ltb-true, ltb-false}
+use lib.Dec.{eqb, ltb}
 use lib.ListN.{take-append-drop, drop_of_length-le}
 use lib.Seq.{drop-drop}
 use Rattle.base.specs.Pick.{pick, picks}
 use Rattle.base.specs.Lists.{drop_step, inside}
-use Rattle.token.specs.Token.{plain_len, tag_len, rest_len, slice_len, Slice, cuts, slices, joined}
+use Rattle.token.specs.Token.{plain_len, tag_len, rest_len, slice_len, Slice, cuts, slices, slices_from, joined}
 
 -- ---- the search for a bracket
 
@@ -147,6 +148,41 @@ module _ (at : ℕ) (l : List ℕ) (h : at < length l) (r : ℕ) (e : r ≡ at +
 
   pub next_less : length l - r < length l - at
   next_less = omega (arith, next_more)
+
+pub ruleset slices_ways = (cuts_next, cuts_end, next_le, next_from, next_more)
+
+-- for a loop over the slices from at on: s is the first, and ss are those that follow
+module _ (at : ℕ) (l : List ℕ) (s : Slice) (ss : List Slice) (e : slices_from at l ≡ s ∷ ss) where
+  -- one starts there
+  pub first_inside : at < length l
+  first_inside = go (ltb at (length l)) refl
+    where
+      go : (t : Bool) → ltb at (length l) ≡ t → at < length l
+      go true h = ltb-true at (length l) h
+      go false h =
+          let none : [] ≡ s ∷ ss = sym (cuts_end at l (ltb-false at (length l) h)) ∙ e in
+          absurd cc
+
+  abbrev len : ℕ
+  len = slice_len (drop at l)
+
+  both : record { start = at; bytes = take len (drop at l) } ∷ slices_from (at + len) l ≡ s ∷ ss
+  both = sym (rw (add-sub_cancel_left at len) at (cuts_next at l first_inside (at + len) refl)) ∙ e
+
+  pub first_is : s ≡ record { start = at; bytes = take len (drop at l) }
+  first_is = let h = both in cc
+
+  pub first_start : s.start ≡ at
+  first_start = ap (λ (x : Slice). x.start) first_is
+
+  pub first_bytes : s.bytes ≡ take len (drop at l)
+  first_bytes = ap (λ (x : Slice). x.bytes) first_is
+
+  pub first_len : length s.bytes ≡ len
+  first_len = ap length first_bytes ∙ length-take-le len (drop at l) (slice_le (drop at l))
+
+  pub first_rest : ss ≡ slices_from (at + len) l
+  first_rest = let h = both in cc
 
 -- ---- after a text comes a bracket, or the end
 

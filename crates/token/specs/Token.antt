@@ -1,5 +1,6 @@
 -- Document 01, "Tokenizer": how a message is cut into slices, and of what shape a slice is.
-use Rattle.std.specs.Prelude.{ℕ, zero, suc, ◌-◌, List, [], ◌∷◌, ◌++◌, Bool, false, eqb, length, get_or, take}
+use Rattle.std.specs.Prelude.{ℕ, zero, suc, ◌-◌, List, [], ◌∷◌, ◌++◌, Bool, false, eqb, length, get_or, take, drop}
+use Rattle.std.specs.Borrow.{Bor}
 use Rattle.base.specs.Pick.{pick}
 use Rattle.token.specs.declared.Shape.{Shape}
 use Rattle.token.specs.declared.Shape.TheVariants.{Bracket, Tag, Stray, Text}
@@ -45,6 +46,14 @@ cuts at (suc k) (b ∷ l) = cuts (suc at) k l
 -- the slices of a message
 unfoldable pub slices : List ℕ → List Slice
 slices l = cuts 0 0 l
+
+-- those of the slices of a message that start at a place or past it, where one starts there
+abbrev pub slices_from : ℕ → List ℕ → List Slice
+slices_from at l = cuts at 0 (drop at l)
+
+-- a place and the bytes that start there, as a slice
+abbrev pub slice_at : ℕ × Bor (List ℕ) → Slice
+slice_at it = record { start = it.0; bytes = it.1.now }
 
 -- the bytes of slices in a row
 unfoldable pub joined : List Slice → List ℕ

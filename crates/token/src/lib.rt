@@ -2,7 +2,8 @@
 #![tactic(auto)]
 
 ghost use Rattle.std.specs.Prelude.{◌≡◌, ◌+◌, drop};
-ghost use Rattle.token.specs.Token.{plain_len, tag_len, slice_len, shape_of};
+ghost use Rattle.std.specs.Iterator.{YieldsFirstBy, item_count};
+ghost use Rattle.token.specs.Token.{plain_len, tag_len, slice_len, shape_of, slices_from, slice_at};
 
 // What a slice is, as `Value::try_from` tells it.
 // Bracket: [[ or ]]. Tag: from [ to ]. Stray: a [ without its ], or a lone ].
@@ -61,6 +62,41 @@ pub fn slice_end(msg: &[u8], at: usize) -> usize
         at + slice_len(&msg[at..])
     } else {
         at
+    }
+}
+
+// The slices of a message, each with the place where it starts: those from a place on are left.
+#[derive(Clone, Copy)]
+pub struct Slices<'a> {
+    msg: &'a [u8],
+    at: usize,
+}
+
+impl<'a> Slices<'a> {
+    // Those of a message from a place on.
+    pub fn new(msg: &'a [u8], from: usize) -> Slices<'a>
+        ensures { slices_from result.at result.msg.now ≡ slices_from from msg.now }
+    {
+        Slices { msg, at: from }
+    }
+}
+
+impl<'a> Iterator for Slices<'a> {
+    type Item = (usize, &'a [u8]);
+
+    ghost next_gives = { YieldsFirstBy slice_at (λ s. slices_from s.at s.msg.now) };
+
+    ghost remaining = { item_count (λ s. slices_from s.at s.msg.now) };
+
+    #[tactic(auto, using(crate::proofs::Laws::slices_ways))]
+    fn next(&mut self) -> Option<(usize, &'a [u8])> {
+        let at = self.at;
+        if at < self.msg.len() {
+            self.at = slice_end(self.msg, at);
+            Some((at, &self.msg[at..self.at]))
+        } else {
+            None
+        }
     }
 }
 
