@@ -1,6 +1,5 @@
 -- A pass as the code reads it: its spans, and how it ends. `read_pass` of proofs/Read.antt says that layout's `read` is made of these.
-use Rattle.std.specs.Prelude.{ℕ, ◌+◌, ◌-◌, ◌≤◌, ◌<◌, ◌≡◌, Bool, true, List, [], ◌∷◌, map, length, set, take, drop, Option, Result, Ok, Err, IfSome, IfOk, sum_by}
-use Rattle.token.specs.Token.{slice_len}
+use Rattle.std.specs.Prelude.{ℕ, ◌+◌, ◌≤◌, ◌≡◌, Bool, true, List, [], ◌∷◌, map, length, set, Option, Result, Ok, Err, IfSome, IfOk, sum_by}
 use Rattle.font.specs.declared.FontWidths.{FontWidths}
 use Rattle.refusal.specs.declared.Refusal.{Refusal}
 use Rattle.records.specs.declared.Config.{Config}
@@ -75,19 +74,6 @@ abbrev pub tag_bytes : How → ℕ
 tag_bytes ByCut = 1
 tag_bytes ByTurn = 1
 tag_bytes ByEnd = 0
-
--- the slice from a place to its end
-pub record Sliced (call : Call) (at end : ℕ) : Type 0 where
-  pub more : at < length call.msg.now
-  pub next : end ≡ at + slice_len (drop at call.msg.now)
-  pub forward : at ≤ end
-  pub within : end ≤ length call.msg.now
-
--- what it does
-pub record Steps (call : Call) (st : RenderState) (blank : Bool) (at end : ℕ) (r : Result Step Refusal) : Type 0 where
-  pub more : at < length call.msg.now
-  pub next : end ≡ at + slice_len (drop at call.msg.now)
-  pub does : r ≡ step_at call.table.config st blank at (take (end - at) (drop at call.msg.now))
 
 -- the items of a message from a place on, the spans of their pass, and how it ends
 abbrev pub items_in : Call → ℕ → List Item

@@ -1,18 +1,19 @@
 // Reading a pass: the values of a message up to [tr], [np] or the end, into rows of measured spans.
 #![tactic(auto)]
 
-ghost use Rattle.std.specs.Prelude.{◌≡◌};
+ghost use Rattle.std.specs.Prelude.{◌≡◌, ◌+◌, ◌≤◌, length};
 ghost use Rattle.meter.specs.Gauges.{WidthsOf};
-ghost use Rattle.pass.specs.Pass.{start_at, Holds, Sliced, Steps, Storable, Stored, PassAsked, PassRead};
+ghost use Rattle.pass.specs.Pass.{step_at, start_at, Holds, Storable, Stored, PassAsked, PassRead};
 
 use font::FontWidths;
 use layout::{Entry, Rect, RenderState, Step};
 use meter::Call;
 use refusal::Refusal;
 use rows::Row;
+use token::Slices;
 use value::Place;
 
-// What ends a pass: [tr], [np] or the message's end.
+// What ends a pass: [tr], [np] or the message's end. No Option: the end is one of three, of which the page makes as many things.
 #[derive(Clone, Copy)]
 pub enum How {
     Cut,
@@ -53,31 +54,24 @@ pub struct PassDone {
     pub reached: Reached,
 }
 
-// What the slice from a place to its end does.
+// What the slice s, which starts at a place, does. The casts are proved; try_from would add an error that no call gives.
 #[tactic(auto, unfolding(crate::specs::Pass::step_at, layout::specs::Read::step))]
-fn step_at(
-    call: &Call,
-    at: usize,
-    end: usize,
-    st: RenderState,
-    blank: bool,
-) -> Result<Step, Refusal>
-    requires { Sliced call.now at end }
-    ensures { Steps call.now st blank at end result }
+fn step_at(call: &Call, at: usize, s: &[u8], st: RenderState, blank: bool) -> Result<Step, Refusal>
+    requires { at + length s.now ≤ length call.now.msg.now }
+    ensures { result ≡ step_at call.now.table.config st blank at s.now }
 {
-    let c = call.table.config;
-    let s = &call.msg[at..end];
     let p = Place {
         start: at as u16,
         len: s.len() as u16,
     };
-    match reading::item_of(at, s, c.long_times) {
-        Ok(v) => render::step(c, st, blank, p, v),
+    match reading::item_of(at, s, call.table.config.long_times) {
+        Ok(v) => render::step(call.table.config, st, blank, p, v),
         Err(e) => Err(layout::refusal_at(p, e.number())),
     }
 }
 
 // Takes the widths of the font with a number, if they are not held. Held is the font that was measured in last, if the sign file has it.
+// That it is the call's font with its number is asked: FontWidths holds a font, of whatever table.
 fn hold<'a>(call: &Call<'a>, number: u8, held: &mut Option<FontWidths<'a, 256>>)
     requires { Holds call.now held.old }
     ensures { WidthsOf call.now number held.new }
@@ -87,7 +81,8 @@ fn hold<'a>(call: &Call<'a>, number: u8, held: &mut Option<FontWidths<'a, 256>>)
     }
 }
 
-// Stores a span's row, and answers how many characters its measure looked up.
+// Stores a span's row, and answers how many characters its measure looked up. n is how many rows there are, which the pass answers too: taken
+// from an iterator over the slots, a place would be an Option that is never None.
 fn store<'a>(
     call: &Call<'a>,
     e: Entry,
@@ -105,6 +100,7 @@ fn store<'a>(
 }
 
 // The pass from a place on. Its spans' rows stand first in the slice.
+#[tactic(auto, using(crate::proofs::Laws::pass_ways))]
 pub fn read_pass(
     call: &Call,
     from: usize,
@@ -117,15 +113,10 @@ pub fn read_pass(
     let mut p = Reached::start(from, start);
     let mut blank = true;
     let mut held: Option<FontWidths<256>> = None;
-    // A step is a slice: where it ends its bytes say.
-    let how = loop {
-        if p.at == call.msg.len() {
-            break How::End;
-        }
-        let at = p.at;
-        let end = token::slice_end(call.msg, at);
-        let step = step_at(call, at, end, p.state, blank)?;
-        p.at = end;
+    let mut how = How::End;
+    for (at, s) in Slices::new(call.msg, from) {
+        let step = step_at(call, at, s, p.state, blank)?;
+        p.at = at + s.len();
         match step {
             Step::Go(next, b) => {
                 p.state = next;
@@ -139,11 +130,15 @@ pub fn read_pass(
             }
             Step::Cut(next) => {
                 p.state = next;
-                break How::Cut;
+                how = How::Cut;
+                break;
             }
-            Step::Turn => break How::Turn,
+            Step::Turn => {
+                how = How::Turn;
+                break;
+            }
         }
-    };
+    }
     Ok(PassDone {
         how,
         rect: start.rect,
