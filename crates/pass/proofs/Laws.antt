@@ -199,20 +199,20 @@ module _ {call : Call} {from : ℕ} {first : RenderState} {rows₀ rows : List R
 
   -- the first slice that is left
   module _ {a : ℕ} {s : List ℕ} {xs : List Slice} (y : left ≡ record { start = a; bytes = s } ∷ xs) where
-    here : First at call.msg.now a s xs
-    here = first_slice at call.msg.now a s xs (sym z.slices ∙ y)
+    leads : First at call.msg.now a s xs
+    leads = first_slice at call.msg.now a s xs (sym z.slices ∙ y)
 
     pub pass_asks : a + length s ≤ length call.msg.now
-    pass_asks = here.within
+    pass_asks = leads.within
 
     pub pass_past : Val.Fits w64 (a + length s)
-    pass_past = omega (arith, here.within, call.small)
+    pass_past = omega (arith, leads.within, call.small)
 
   -- t is what it does
   module _ {a : ℕ} {s : List ℕ} {xs : List Slice} (y : left ≡ record { start = a; bytes = s } ∷ xs)
       {t : Result Step Refusal} (g : t ≡ step_at c st blank a s) where
-    h : First at call.msg.now a s xs
-    h = here y
+    here : First at call.msg.now a s xs
+    here = leads y
 
     slice : Slice
     slice = record { start = a; bytes = s }
@@ -222,14 +222,14 @@ module _ {call : Call} {from : ℕ} {first : RenderState} {rows₀ rows : List R
     r = a + length s
 
     past : r ≤ length call.msg.now
-    past = h.within
+    past = here.within
 
     more : at < r
-    more = omega (arith, h.start, h.more)
+    more = omega (arith, here.start, here.more)
 
     from_next : items_in call at ≡ item_at c slice ∷ items_in call r
     unfolding items_from slice
-    from_next = ap (map (item_at c)) (sym z.slices ∙ y ∙ ap (λ (l : List Slice). record { start = a; bytes = s } ∷ l) h.rest)
+    from_next = ap (map (item_at c)) (sym z.slices ∙ y ∙ ap (λ (l : List Slice). record { start = a; bytes = s } ∷ l) here.rest)
 
     stepped : step c st blank (item_at c slice) ≡ t
     unfolding step_at slice
@@ -252,7 +252,7 @@ module _ {call : Call} {from : ℕ} {first : RenderState} {rows₀ rows : List R
     unfolding slice
     lies =
         subst (StepWithin c st (item_at c slice)) stepped
-        (step_within c st blank (item_at c slice) (item_within c.long_times a s h.more))
+        (step_within c st blank (item_at c slice) (item_within c.long_times a s here.more))
 
     -- the step is u
     module _ {u : Result Step Refusal} (q : t ≡ u) where
@@ -317,7 +317,7 @@ module _ {call : Call} {from : ℕ} {first : RenderState} {rows₀ rows : List R
           entries = spans_so q;
           sum = sum_so q;
           holds = z.holds;
-          slices = h.rest;
+          slices = here.rest;
         }
 
     -- a span: its row is stored
@@ -344,11 +344,11 @@ module _ {call : Call} {from : ℕ} {first : RenderState} {rows₀ rows : List R
       pass_reads =
           record {
             inside = omega (arith, starts, shorter, past);
-            codes_fit = λ k. rw (starts, ← take-take x.len (length s) (drop a call.msg.now) shorter, ← h.bytes) (narrow k);
+            codes_fit = λ k. rw (starts, ← take-take x.len (length s) (drop a call.msg.now) shorter, ← here.bytes) (narrow k);
           }
 
       pub pass_stores : Storable call x held rows p.count
-      pass_stores = record { reads = pass_reads; holds = z.holds; room = omega (arith, h.start, h.more, h.within) }
+      pass_stores = record { reads = pass_reads; holds = z.holds; room = omega (arith, here.start, here.more, here.within) }
 
       -- the rows from here on
       abbrev later : List Row
@@ -358,7 +358,7 @@ module _ {call : Call} {from : ℕ} {first : RenderState} {rows₀ rows : List R
       looked_here : {held' : Option (FontWidths 256)} {rows' : List Row} {y : ℕ} → Stored call x rows p.count held' rows' y → y ≤ length s
       looked_here w =
           rw w.looked
-          (looked_few call.msg.now x (capitals_in (sign_file call.file.now)) (font_numbered x.state.font (fonts_in (sign_file call.file.now))) (length s) shorter (omega (arith, h.more)))
+          (looked_few call.msg.now x (capitals_in (sign_file call.file.now)) (font_numbered x.state.font (fonts_in (sign_file call.file.now))) (length s) shorter (omega (arith, here.more)))
 
       pub pass_adds : {held' : Option (FontWidths 256)} {rows' : List Row} {y : ℕ} → Stored call x rows p.count held' rows' y → Val.Fits w64 (p.looked + y)
       pass_adds w = omega (arith, looked_here w, z.few, more, past, call.small)
@@ -368,7 +368,7 @@ module _ {call : Call} {from : ℕ} {first : RenderState} {rows₀ rows : List R
       pass_emit {held' = held'} {y = y} w =
           record {
             counted = omega (arith, z.counted, more);
-            few = omega (arith, looked_here w, z.few, h.start);
+            few = omega (arith, looked_here w, z.few, here.start);
             within = past;
             asked = z.asked;
             room = w.room ∙ z.room;
@@ -381,7 +381,7 @@ module _ {call : Call} {from : ℕ} {first : RenderState} {rows₀ rows : List R
                 ∙ spans_so q;
             sum = omega (arith, w.looked, sum_by-cons (looked_in call) x (entries_from call r st' b), sum_so q);
             holds = held_widths call x.state.font held' w.holds;
-            slices = h.rest;
+            slices = here.rest;
           }
 
 module _ {call : Call} {from : ℕ} {first : RenderState} {rows : List Row}

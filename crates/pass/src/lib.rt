@@ -13,7 +13,7 @@ use rows::Row;
 use token::Slices;
 use value::Place;
 
-// What ends a pass: [tr], [np] or the message's end. No Option: the end is one of three, of which the page makes as many things.
+// What ends a pass: [tr], [np] or the message's end. No Option: none of the three is missing, and the page goes on otherwise at each.
 #[derive(Clone, Copy)]
 pub enum How {
     Cut,
@@ -81,8 +81,8 @@ fn hold<'a>(call: &Call<'a>, number: u8, held: &mut Option<FontWidths<'a, 256>>)
     }
 }
 
-// Stores a span's row, and answers how many characters its measure looked up. n is how many rows there are, which the pass answers too: taken
-// from an iterator over the slots, a place would be an Option that is never None.
+// Stores a span's row behind the n before it, and answers how many characters its measure looked up. n stands beside the slice: the pass
+// answers it, and an iterator over the rows would add a None that no call gives.
 fn store<'a>(
     call: &Call<'a>,
     e: Entry,
