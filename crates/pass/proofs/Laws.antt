@@ -357,8 +357,8 @@ module _ {call : Call} {from : ℕ} {first : RenderState} {rows₀ rows : List R
       -- no more characters than the slice has bytes
       looked_here : {held' : Option (FontWidths 256)} {rows' : List Row} {y : ℕ} → Stored call x rows p.count held' rows' y → y ≤ length s
       looked_here w =
-          rw w.looked
-          (looked_few call.msg.now x (capitals_in (sign_file call.file.now)) (font_numbered x.state.font (fonts_in (sign_file call.file.now))) (length s) shorter (omega (arith, here.more)))
+          let found = font_numbered x.state.font (fonts_in (sign_file call.file.now)) in
+          rw w.looked (looked_few call.msg.now x (capitals_in (sign_file call.file.now)) found (length s) shorter (omega (arith, here.more)))
 
       pub pass_adds : {held' : Option (FontWidths 256)} {rows' : List Row} {y : ℕ} → Stored call x rows p.count held' rows' y → Val.Fits w64 (p.looked + y)
       pass_adds w = omega (arith, looked_here w, z.few, more, past, call.small)

@@ -71,7 +71,7 @@ fn step_at(call: &Call, at: usize, s: &[u8], st: RenderState, blank: bool) -> Re
 }
 
 // Takes the widths of the font with a number, if they are not held. Held is the font that was measured in last, if the sign file has it.
-// That it is the call's font with its number is asked: FontWidths holds a font, of whatever table.
+// Holds is asked of callers: FontWidths knows its font, but not whose table that font is of.
 fn hold<'a>(call: &Call<'a>, number: u8, held: &mut Option<FontWidths<'a, 256>>)
     requires { Holds call.now held.old }
     ensures { WidthsOf call.now number held.new }
