@@ -1,21 +1,20 @@
 -- The ways on and out of a pass.
 use Rattle.std.proofs.lemmas.List.Sums.{sum_by-cons}
-use Rattle.std.specs.Prelude.{sum_by, Option, Some, None, IfSome, Result, Ok, Err, not}
-use Rattle.std.specs.Option.{option_eq}
-use Rattle.std.proofs.lemmas.Bool.{eqb-true, not-false}
-use Prim.Native.Nat.{ℕ, ◌+◌, ◌-◌, ◌%◌, ◌≤◌, ◌<◌}
+use Rattle.std.specs.Prelude.{sum_by, Option, Some, None, Result, Ok, Err}
+use Rattle.std.proofs.lemmas.Bool.{eqb-true}
+use Prim.Native.Nat.{ℕ, ◌+◌, ◌%◌, ◌≤◌, ◌<◌}
 use mathlib.Core.Path.{◌≡◌, refl, sym, ◌∙◌, ap, subst}
 use mathlib.Core.Bool.{Bool, true, false, ◌&&◌}
 use mathlib.Core.List.{List, [], ◌∷◌, ◌++◌, map, append_assoc, append-nil}
 use native.Mathlib.Omega.{arith}
 use lib.Dec.{leb, ltb, eqb}
 use borrow.Author.Tests.{leb-true}
-use lib.ListN.{length, take, drop, length-drop}
+use lib.ListN.{length, take, drop}
 use mir.Val as Val
 use mir.Syntax.{w64}
-use lib.Seq.{length-take-le, take-take}
-use Rattle.token.specs.Token.{Slice, slice_len}
-use Rattle.token.proofs.Laws.{cuts_next, cuts_end, next_le, next_from, next_more}
+use lib.Seq.{take-take}
+use Rattle.token.specs.Token.{Slice, slice_len, slices_from}
+use Rattle.token.proofs.Laws.{next_le, next_more, first_inside, first_start, first_bytes, first_len, first_rest}
 use Rattle.utf8.specs.Utf8.{codes}
 use Rattle.refusal.specs.declared.Refusal.{Refusal}
 use Rattle.records.specs.declared.Config.{Config}
@@ -34,17 +33,19 @@ use Rattle.rows.specs.declared.Row.{Row}
 use Rattle.rows.specs.Rows.{rows_of}
 use Rattle.rows.proofs.Laws.{rows_put}
 use Rattle.sign.specs.Sign.{sign_file}
-use Rattle.font.specs.Table.{font_numbered}
+use Rattle.base.specs.Pick.{pick}
+use Rattle.sign.specs.declared.FontEntry.{FontEntry}
+use Rattle.font.specs.Table.{font_numbered, entry_numbered}
+use Rattle.font.specs.declared.FontWidths.{FontWidths}
 use Rattle.counts.specs.Placing.{fonts_in, capitals_in}
 use Rattle.counts.proofs.Laws.{looked_few}
 use Rattle.meter.specs.declared.call.Call.{Call}
-use Rattle.meter.specs.Gauges.{WidthsOf, CodesFit, EntryIn}
+use Rattle.meter.specs.Gauges.{FontIs, WidthsOf, CodesFit, EntryIn}
 use Rattle.pass.specs.declared.How.{How}
 use Rattle.pass.specs.declared.How.TheVariants.{Cut as ByCut, Turn as ByTurn, End as ByEnd}
-use Rattle.pass.specs.declared.Held.{Held}
 use Rattle.pass.specs.declared.PassDone.{PassDone}
 use Rattle.pass.specs.declared.Reached.{Reached}
-use Rattle.pass.specs.Pass.{Ending, ended, entries_by, entries_of, ending_by, ending_of, step_at, start_at, Inside, tag_bytes, items_in, entries_from, ending_from, row_in, looked_in, Sliced, Steps, Holds, Storable, Stored, PassAsked, SpansRead, PassRead}
+use Rattle.pass.specs.Pass.{Ending, ended, entries_by, entries_of, ending_by, ending_of, step_at, start_at, Inside, tag_bytes, items_in, entries_from, ending_from, row_in, looked_in, Holds, Storable, Stored, PassAsked, SpansRead, PassRead}
 use Rattle.pass.proofs.Items.{spoken_narrow}
 
 -- ---- a rectangle inside the sign
@@ -59,15 +60,59 @@ fits_inside c r e =
     let (a, d) = and_parts (fits r.left r.width c.width c.char_width) (fits r.top r.height c.height c.char_height) e in
     record { across = fits_most r.left r.width c.width c.char_width a; down = fits_most r.top r.height c.height c.char_height d }
 
+-- ---- the widths of a font
+
+-- an entry that is found has the number
+found_numbered : (n : ℕ) (e : FontEntry) (es : List FontEntry) → entry_numbered n es ≡ Some e → e.number ≡ n
+unfolding entry_numbered
+found_numbered n e [] k = cc
+found_numbered n e (x ∷ es) k = go (eqb x.number n) refl (found_numbered n e es) k
+  where
+    go : (t : Bool) → eqb x.number n ≡ t → (entry_numbered n es ≡ Some e → e.number ≡ n) → pick t (Some x) (entry_numbered n es) ≡ Some e → e.number ≡ n
+    go true a h d =
+        let same : x ≡ e = cc in
+        ap (λ (y : FontEntry). y.number) (sym same) ∙ eqb-true x.number n a
+    go false a h d = h d
+
+-- the widths of the font with a number can be held
+held_widths : (call : Call) (n : ℕ) (held : Option (FontWidths 256)) → WidthsOf call n held → Holds call held
+held_widths call n None k = tt
+held_widths call n (Some w) k = subst (λ (m : ℕ). FontIs call m w) (sym (found_numbered n w.font.entry (take call.table.count call.table.fonts) k.entry)) k
+
 -- ---- the loop
 
-items_end : (c : Config) (at : ℕ) (l : List ℕ) → length l ≤ at → items_from c at l ≡ []
+items_end : (c : Config) (at : ℕ) (l : List ℕ) → slices_from at l ≡ [] → items_from c at l ≡ []
 unfolding items_from
-items_end c at l h = ap (map (item_at c)) (cuts_end at l h)
+items_end c at l h = ap (map (item_at c)) h
 
--- where the loop stands: first is the state it began with, rows₀ the rows
-pub record Stands (call : Call) (from : ℕ) (first : RenderState) (rows₀ rows : List Row)
-    (p : Reached) (blank : Bool) (held : Held) : Type 0 where
+-- the first of the slices from a place on is s, which starts at a, and the others are xs
+record First (at : ℕ) (l : List ℕ) (a : ℕ) (s : List ℕ) (xs : List Slice) : Type 0 where
+  start : at ≡ a
+  more : 0 < length s
+  within : a + length s ≤ length l
+  bytes : s ≡ take (length s) (drop a l)
+  rest : xs ≡ slices_from (a + length s) l
+
+first_slice : (at : ℕ) (l : List ℕ) (a : ℕ) (s : List ℕ) (xs : List Slice) → slices_from at l ≡ record { start = a; bytes = s } ∷ xs → First at l a s xs
+first_slice at l a s xs e =
+    let x : Slice = record { start = a; bytes = s } in
+    let h : at < length l = first_inside at l x xs e in
+    let n : ℕ = slice_len (drop at l) in
+    let start : at ≡ a = sym (first_start at l x xs e) in
+    let size : length s ≡ n = first_len at l x xs e in
+    let more : at < at + n = next_more at l h (at + n) refl in
+    let past : at + n ≤ length l = next_le at l h (at + n) refl in
+    record {
+      start = start;
+      more = omega (arith, size, more);
+      within = rw (size, ← start) past;
+      bytes = rw (size, ← start) (first_bytes at l x xs e);
+      rest = rw (size, ← start) (first_rest at l x xs e);
+    }
+
+-- where the loop stands: first is the state it began with, rows₀ the rows, and the slices are left
+pub record Stands (call : Call) (from : ℕ) (first : RenderState) (rows₀ rows : List Row) (left : List Slice)
+    (p : Reached) (blank : Bool) (held : Option (FontWidths 256)) : Type 0 where
   pub counted : from + p.count ≤ p.at
   pub few : from + p.looked ≤ p.at
   pub within : p.at ≤ length call.msg.now
@@ -83,9 +128,10 @@ pub record Stands (call : Call) (from : ℕ) (first : RenderState) (rows₀ rows
       p.looked + sum_by (looked_in call) (entries_from call p.at p.state blank)
       ≡ sum_by (looked_in call) (entries_from call from first true)
   pub holds : Holds call held
+  pub slices : left ≡ slices_from p.at call.msg.now
 
-module _ {call : Call} {from : ℕ} {first : RenderState} {rows₀ rows : List Row}
-    {p : Reached} {blank : Bool} {held : Held} (z : Stands call from first rows₀ rows p blank held) where
+module _ {call : Call} {from : ℕ} {first : RenderState} {rows₀ rows : List Row} {left : List Slice}
+    {p : Reached} {blank : Bool} {held : Option (FontWidths 256)} (z : Stands call from first rows₀ rows left p blank held) where
   abbrev c : Config
   c = call.table.config
 
@@ -126,7 +172,7 @@ module _ {call : Call} {from : ℕ} {first : RenderState} {rows₀ rows : List R
   finish h q e s = record { ends = subst (λ (x : Rect). ended h x q.state (items_in call q.at) ≡ End) z.rect e; done = s; room = z.room }
 
   -- the message's end
-  pub pass_end : at ≡ length call.msg.now → Ends (Ok (done ByEnd p))
+  pub pass_end : left ≡ [] → Ends (Ok (done ByEnd p))
   pass_end h =
       finish ByEnd p (last_ending (items_in call at) none_left ∙ z.ending)
       (record {
@@ -140,7 +186,7 @@ module _ {call : Call} {from : ℕ} {first : RenderState} {rows₀ rows : List R
       })
     where
       none_left : items_in call at ≡ []
-      none_left = items_end c at call.msg.now (omega arith)
+      none_left = items_end c at call.msg.now (sym z.slices ∙ h)
 
       last_ending : (its : List Item) → its ≡ [] → ended ByEnd st.rect st its ≡ ending_of c its st blank
       last_ending its e = rw e
@@ -151,37 +197,43 @@ module _ {call : Call} {from : ℕ} {first : RenderState} {rows₀ rows : List R
       last_sum : (its : List Item) → its ≡ [] → p.looked ≡ p.looked + looked_for (entries_of c its st blank)
       last_sum its e = rw e (omega arith)
 
-  -- the slice at the place
-  pub pass_asks : (at ≡ length call.msg.now → ⊥) → {r : ℕ} → r ≡ at + slice_len (drop at call.msg.now) → Sliced call at r
-  pass_asks d {r} e =
-      let h : at < length call.msg.now = omega (arith, z.within) in
-      record { more = h; next = e; forward = next_from at call.msg.now h r e; within = next_le at call.msg.now h r e }
+  -- the first slice that is left
+  module _ {a : ℕ} {s : List ℕ} {xs : List Slice} (y : left ≡ record { start = a; bytes = s } ∷ xs) where
+    leads : First at call.msg.now a s xs
+    leads = first_slice at call.msg.now a s xs (sym z.slices ∙ y)
 
-  -- the slice at the place: r is its end, t what it does
-  module _ {r : ℕ} {t : Result Step Refusal} (g : Steps call st blank at r t) where
-    bytes : List ℕ
-    bytes = take (r - at) (drop at call.msg.now)
+    pub pass_asks : a + length s ≤ length call.msg.now
+    pass_asks = leads.within
+
+    pub pass_past : Val.Fits w64 (a + length s)
+    pass_past = omega (arith, leads.within, call.small)
+
+  -- t is what it does
+  module _ {a : ℕ} {s : List ℕ} {xs : List Slice} (y : left ≡ record { start = a; bytes = s } ∷ xs)
+      {t : Result Step Refusal} (g : t ≡ step_at c st blank a s) where
+    here : First at call.msg.now a s xs
+    here = leads y
 
     slice : Slice
-    slice = record { start = at; bytes = bytes }
+    slice = record { start = a; bytes = s }
+
+    -- its end
+    abbrev r : ℕ
+    r = a + length s
 
     past : r ≤ length call.msg.now
-    past = next_le at call.msg.now g.more r g.next
+    past = here.within
 
     more : at < r
-    more = next_more at call.msg.now g.more r g.next
-
-    size : length bytes ≡ r - at
-    unfolding bytes
-    size = length-take-le (r - at) (drop at call.msg.now) (omega (arith, length-drop at call.msg.now, past))
+    more = omega (arith, here.start, here.more)
 
     from_next : items_in call at ≡ item_at c slice ∷ items_in call r
-    unfolding items_from slice bytes
-    from_next = ap (map (item_at c)) (cuts_next at call.msg.now g.more r g.next)
+    unfolding items_from slice
+    from_next = ap (map (item_at c)) (sym z.slices ∙ y ∙ ap (λ (l : List Slice). record { start = a; bytes = s } ∷ l) here.rest)
 
     stepped : step c st blank (item_at c slice) ≡ t
-    unfolding step_at slice bytes
-    stepped = sym g.does
+    unfolding step_at slice
+    stepped = sym g
 
     -- the ending and the entries from here on, by a step
     abbrev ending : Result Step Refusal → Ending
@@ -200,7 +252,7 @@ module _ {call : Call} {from : ℕ} {first : RenderState} {rows₀ rows : List R
     unfolding slice
     lies =
         subst (StepWithin c st (item_at c slice)) stepped
-        (step_within c st blank (item_at c slice) (item_within c.long_times at bytes (omega (arith, size, more))))
+        (step_within c st blank (item_at c slice) (item_within c.long_times a s here.more))
 
     -- the step is u
     module _ {u : Result Step Refusal} (q : t ≡ u) where
@@ -251,7 +303,7 @@ module _ {call : Call} {from : ℕ} {first : RenderState} {rows₀ rows : List R
         let q : t ≡ Ok Turn = goes k e in
         finish ByTurn (next st) (ends_so q) (closed ByTurn st (spans_so q) (sum_so q) (omega arith) (rw z.rect z.asked.inside))
 
-    pub pass_go : {u : Step} {st' : RenderState} {b : Bool} → t ≡ Ok u → u ≡ Go st' b → Stands call from first rows₀ rows (next st') b held
+    pub pass_go : {u : Step} {st' : RenderState} {b : Bool} → t ≡ Ok u → u ≡ Go st' b → Stands call from first rows₀ rows xs (next st') b held
     pass_go {st' = st'} {b} k e =
         let q : t ≡ Ok (Go st' b) = goes k e in
         record {
@@ -265,6 +317,7 @@ module _ {call : Call} {from : ℕ} {first : RenderState} {rows₀ rows : List R
           entries = spans_so q;
           sum = sum_so q;
           holds = z.holds;
+          slices = here.rest;
         }
 
     -- a span: its row is stored
@@ -275,48 +328,47 @@ module _ {call : Call} {from : ℕ} {first : RenderState} {rows₀ rows : List R
       spoke : StepWithin c st (item_at c slice) (Ok (Emit x st' b))
       spoke = lies_so q
 
-      starts : x.start ≡ at
+      starts : x.start ≡ a
       unfolding slice
       starts = spoke.2.start
 
-      shorter : x.len ≤ r - at
+      shorter : x.len ≤ length s
       unfolding slice
-      shorter = omega (arith, spoke.2.len, size)
+      shorter = spoke.2.len
 
-      narrow : x.kind ≡ 0 → CodesFit (codes (take x.len bytes))
+      narrow : x.kind ≡ 0 → CodesFit (codes (take x.len s))
       unfolding slice
-      narrow k = spoken_narrow c.long_times at bytes x spoke.2.spoken k
+      narrow k = spoken_narrow c.long_times a s x spoke.2.spoken k
 
       pass_reads : EntryIn call x
-      unfolding bytes
       pass_reads =
           record {
-            inside = omega (arith, starts, shorter, past, more);
-            codes_fit = λ k. rw (starts, ← take-take x.len (r - at) (drop at call.msg.now) shorter) (narrow k);
+            inside = omega (arith, starts, shorter, past);
+            codes_fit = λ k. rw (starts, ← take-take x.len (length s) (drop a call.msg.now) shorter, ← here.bytes) (narrow k);
           }
 
       pub pass_stores : Storable call x held rows p.count
-      pass_stores = record { reads = pass_reads; holds = z.holds; room = omega (arith, g.more) }
+      pass_stores = record { reads = pass_reads; holds = z.holds; room = omega (arith, here.start, here.more, here.within) }
 
       -- the rows from here on
       abbrev later : List Row
       later = map f (entries_from call r st' b)
 
       -- no more characters than the slice has bytes
-      looked_here : {held' : Held} {rows' : List Row} {y : ℕ} → Stored call x rows p.count held' rows' y → y ≤ r - at
+      looked_here : {held' : Option (FontWidths 256)} {rows' : List Row} {y : ℕ} → Stored call x rows p.count held' rows' y → y ≤ length s
       looked_here w =
-          rw w.looked
-          (looked_few call.msg.now x (capitals_in (sign_file call.file.now)) (font_numbered x.state.font (fonts_in (sign_file call.file.now))) (r - at) shorter (omega (arith, more)))
+          let found = font_numbered x.state.font (fonts_in (sign_file call.file.now)) in
+          rw w.looked (looked_few call.msg.now x (capitals_in (sign_file call.file.now)) found (length s) shorter (omega (arith, here.more)))
 
-      pub pass_adds : {held' : Held} {rows' : List Row} {y : ℕ} → Stored call x rows p.count held' rows' y → Val.Fits w64 (p.looked + y)
+      pub pass_adds : {held' : Option (FontWidths 256)} {rows' : List Row} {y : ℕ} → Stored call x rows p.count held' rows' y → Val.Fits w64 (p.looked + y)
       pass_adds w = omega (arith, looked_here w, z.few, more, past, call.small)
 
-      pub pass_emit : {held' : Held} {rows' : List Row} {y : ℕ} → Stored call x rows p.count held' rows' y
-          → Stands call from first rows₀ rows' (record { at = r; count = p.count + 1; looked = p.looked + y; state = st' }) b held'
-      pass_emit {y = y} w =
+      pub pass_emit : {held' : Option (FontWidths 256)} {rows' : List Row} {y : ℕ} → Stored call x rows p.count held' rows' y
+          → Stands call from first rows₀ rows' xs (record { at = r; count = p.count + 1; looked = p.looked + y; state = st' }) b held'
+      pass_emit {held' = held'} {y = y} w =
           record {
             counted = omega (arith, z.counted, more);
-            few = omega (arith, looked_here w, z.few, more);
+            few = omega (arith, looked_here w, z.few, here.start);
             within = past;
             asked = z.asked;
             room = w.room ∙ z.room;
@@ -328,15 +380,17 @@ module _ {call : Call} {from : ℕ} {first : RenderState} {rows₀ rows : List R
                 ∙ append_assoc (rows_of rows p.count) (f x ∷ []) later
                 ∙ spans_so q;
             sum = omega (arith, w.looked, sum_by-cons (looked_in call) x (entries_from call r st' b), sum_so q);
-            holds = w.holds;
+            holds = held_widths call x.state.font held' w.holds;
+            slices = here.rest;
           }
 
 module _ {call : Call} {from : ℕ} {first : RenderState} {rows : List Row}
     (asked : PassAsked call from first rows) where
   -- where the loop begins
-  pub pass_start : {q : Reached} {held : Held} → q ≡ start_at from first → held.number ≡ None → Stands call from first rows rows q true held
-  pass_start {held = held} d e =
-      subst (λ (q : Reached). Stands call from first rows rows q true held) (sym d)
+  pub pass_start : {q : Reached} {held : Option (FontWidths 256)} {left : List Slice} → q ≡ start_at from first → held ≡ None
+      → left ≡ slices_from from call.msg.now → Stands call from first rows rows left q true held
+  pass_start {held = held} {left} d e k =
+      subst (λ (q : Reached). Stands call from first rows rows left q true held) (sym d)
       (record {
         counted = omega arith;
         few = omega arith;
@@ -348,16 +402,8 @@ module _ {call : Call} {from : ℕ} {first : RenderState} {rows : List Row}
         entries = refl;
         sum = omega arith;
         holds = rw e tt;
+        slices = k;
       })
 
--- ---- the widths of a font
-
-number_same : (o : Option ℕ) (n : ℕ) → not (option_eq eqb o (Some n)) ≡ false → o ≡ Some n
-number_same None n e = cc
-number_same (Some m) n e = ap (λ (k : ℕ). Some k) (eqb-true m n (not-false (eqb m n) e))
-
-pub held_same : (call : Call) (h : Held) (n : ℕ) {b : Bool} → Holds call h → b ≡ not (option_eq eqb h.number (Some n)) → b ≡ false
-    → (h.number ≡ Some n) × WidthsOf call n h.font
-held_same call h n k d e =
-    let s : h.number ≡ Some n = number_same h.number n (sym d ∙ e) in
-    (s, subst (λ (o : Option ℕ). IfSome o (λ m. WidthsOf call m h.font)) s k)
+-- for the function `read_pass`
+pub ruleset pass_ways = (pass_asks, pass_past, pass_refuse)

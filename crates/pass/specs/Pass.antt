@@ -1,6 +1,6 @@
 -- A pass as the code reads it: its spans, and how it ends. `read_pass` of proofs/Read.antt says that layout's `read` is made of these.
-use Rattle.std.specs.Prelude.{ℕ, ◌+◌, ◌-◌, ◌≤◌, ◌<◌, ◌≡◌, Bool, true, List, [], ◌∷◌, map, length, set, take, drop, Result, Ok, Err, IfSome, IfOk, sum_by}
-use Rattle.token.specs.Token.{slice_len}
+use Rattle.std.specs.Prelude.{ℕ, ◌+◌, ◌≤◌, ◌≡◌, Bool, true, List, [], ◌∷◌, map, length, set, Option, Result, Ok, Err, IfSome, IfOk, sum_by}
+use Rattle.font.specs.declared.FontWidths.{FontWidths}
 use Rattle.refusal.specs.declared.Refusal.{Refusal}
 use Rattle.records.specs.declared.Config.{Config}
 use Rattle.layout.specs.declared.Rect.{Rect}
@@ -15,11 +15,10 @@ use Rattle.page.specs.Scan.{items_from}
 use Rattle.rows.specs.Rows.{RowRoom, rows_of}
 use Rattle.rows.specs.declared.Row.{Row}
 use Rattle.rows.specs.Measured.{row_of}
-use Rattle.meter.specs.Gauges.{WidthsOf, EntryIn, meter_in, looked_by}
+use Rattle.meter.specs.Gauges.{FontIs, WidthsOf, EntryIn, meter_in, looked_by}
 use Rattle.meter.specs.declared.call.Call.{Call}
 use Rattle.pass.specs.declared.How.{How}
 use Rattle.pass.specs.declared.How.TheVariants.{Cut as ByCut, Turn as ByTurn, End as ByEnd}
-use Rattle.pass.specs.declared.Held.{Held}
 use Rattle.pass.specs.declared.PassDone.{PassDone}
 use Rattle.pass.specs.declared.Reached.{Reached}
 
@@ -76,19 +75,6 @@ tag_bytes ByCut = 1
 tag_bytes ByTurn = 1
 tag_bytes ByEnd = 0
 
--- the slice from a place to its end
-pub record Sliced (call : Call) (at end : ℕ) : Type 0 where
-  pub more : at < length call.msg.now
-  pub next : end ≡ at + slice_len (drop at call.msg.now)
-  pub forward : at ≤ end
-  pub within : end ≤ length call.msg.now
-
--- what it does
-pub record Steps (call : Call) (st : RenderState) (blank : Bool) (at end : ℕ) (r : Result Step Refusal) : Type 0 where
-  pub more : at < length call.msg.now
-  pub next : end ≡ at + slice_len (drop at call.msg.now)
-  pub does : r ≡ step_at call.table.config st blank at (take (end - at) (drop at call.msg.now))
-
 -- the items of a message from a place on, the spans of their pass, and how it ends
 abbrev pub items_in : Call → ℕ → List Item
 items_in call at = items_from call.table.config at call.msg.now
@@ -106,21 +92,21 @@ row_in call = row_of (meter_in call.file.now call.msg.now)
 abbrev pub looked_in : Call → Entry → ℕ
 looked_in call = looked_by call.file.now call.msg.now
 
--- the font held is the one with the number held, if there is one
-abbrev pub Holds : Call → Held → Type 0
-Holds call h = IfSome h.number (λ n. WidthsOf call n h.font)
+-- the font held, if there is one, is that of its number
+abbrev pub Holds : Call → Option (FontWidths 256) → Type 0
+Holds call held = IfSome held (λ w. FontIs call w.font.entry.number w)
 
 -- a span's row can be stored
-pub record Storable (call : Call) (e : Entry) (held : Held) (rows : List Row) (n : ℕ) : Type 0 where
+pub record Storable (call : Call) (e : Entry) (held : Option (FontWidths 256)) (rows : List Row) (n : ℕ) : Type 0 where
   pub reads : EntryIn call e
   pub holds : Holds call held
   pub room : RowRoom (n + 1) rows
 
--- it was: the widths are those of its font, and its measure looked so many characters up
-pub record Stored (call : Call) (e : Entry) (rows : List Row) (n : ℕ) (held' : Held) (rows' : List Row) (k : ℕ) : Type 0 where
+-- it was: the widths held are those of its font, and its measure looked so many characters up
+pub record Stored (call : Call) (e : Entry) (rows : List Row) (n : ℕ) (held' : Option (FontWidths 256)) (rows' : List Row) (k : ℕ) : Type 0 where
   pub row : rows' ≡ set rows n (row_in call e)
   pub looked : k ≡ looked_in call e
-  pub holds : Holds call held'
+  pub holds : WidthsOf call e.state.font held'
   pub room : length rows' ≡ length rows
 
 -- a place in a message, with room for the message's rows

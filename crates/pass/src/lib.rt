@@ -1,18 +1,19 @@
 // Reading a pass: the values of a message up to [tr], [np] or the end, into rows of measured spans.
 #![tactic(auto)]
 
-ghost use Rattle.std.specs.Prelude.{◌≡◌, Some, None};
+ghost use Rattle.std.specs.Prelude.{◌≡◌, ◌+◌, ◌≤◌, length};
 ghost use Rattle.meter.specs.Gauges.{WidthsOf};
-ghost use Rattle.pass.specs.Pass.{start_at, Holds, Sliced, Steps, Storable, Stored, PassAsked, PassRead};
+ghost use Rattle.pass.specs.Pass.{step_at, start_at, Holds, Storable, Stored, PassAsked, PassRead};
 
 use font::FontWidths;
 use layout::{Entry, Rect, RenderState, Step};
 use meter::Call;
 use refusal::Refusal;
 use rows::Row;
+use token::Slices;
 use value::Place;
 
-// What ends a pass: [tr], [np] or the message's end.
+// What ends a pass: [tr], [np] or the message's end. No Option: none of the three is missing, and the page goes on otherwise at each.
 #[derive(Clone, Copy)]
 pub enum How {
     Cut,
@@ -53,71 +54,53 @@ pub struct PassDone {
     pub reached: Reached,
 }
 
-// What the slice from a place to its end does.
+// What the slice s, which starts at a place, does. The casts are proved; try_from would add an error that no call gives.
 #[tactic(auto, unfolding(crate::specs::Pass::step_at, layout::specs::Read::step))]
-fn step_at(
-    call: &Call,
-    at: usize,
-    end: usize,
-    st: RenderState,
-    blank: bool,
-) -> Result<Step, Refusal>
-    requires { Sliced call.now at end }
-    ensures { Steps call.now st blank at end result }
+fn step_at(call: &Call, at: usize, s: &[u8], st: RenderState, blank: bool) -> Result<Step, Refusal>
+    requires { at + length s.now ≤ length call.now.msg.now }
+    ensures { result ≡ step_at call.now.table.config st blank at s.now }
 {
-    let c = call.table.config;
-    let s = &call.msg[at..end];
     let p = Place {
         start: at as u16,
         len: s.len() as u16,
     };
-    match reading::item_of(at, s, c.long_times) {
-        Ok(v) => render::step(c, st, blank, p, v),
+    match reading::item_of(at, s, call.table.config.long_times) {
+        Ok(v) => render::step(call.table.config, st, blank, p, v),
         Err(e) => Err(layout::refusal_at(p, e.number())),
     }
 }
 
-// The number of the font that was measured in last, if any, and that font with its widths, if the sign file has it.
-#[derive(Drop)]
-struct Held<'a> {
-    number: Option<u8>,
-    font: Option<FontWidths<'a, 256>>,
-}
-
-impl<'a> Held<'a> {
-    fn new() -> Held<'a>
-        ensures { result.number ≡ None }
-    {
-        Held {
-            number: None,
-            font: None,
-        }
-    }
-
-    // Takes the widths anew if they are not the font's.
-    fn keep(&mut self, call: &Call<'a>, number: u8)
-        requires { Holds call.now self.old }
-        ensures { (self.new.number ≡ Some number) × WidthsOf call.now number self.new.font }
-    {
-        if self.number != Some(number) {
-            self.number = Some(number);
-            self.font = meter::widths_of(call, number);
-        }
+// Takes the widths of the font with a number, if they are not held. Held is the font that was measured in last, if the sign file has it.
+// Holds is asked of callers: FontWidths knows its font, but not whose table that font is of.
+fn hold<'a>(call: &Call<'a>, number: u8, held: &mut Option<FontWidths<'a, 256>>)
+    requires { Holds call.now held.old }
+    ensures { WidthsOf call.now number held.new }
+{
+    if !matches!(held, Some(widths) if widths.font.entry.number == number) {
+        *held = meter::widths_of(call, number);
     }
 }
 
-// Stores a span's row, and answers how many characters its measure looked up.
-fn store<'a>(call: &Call<'a>, e: Entry, held: &mut Held<'a>, rows: &mut [Row], n: usize) -> usize
+// Stores a span's row behind the n before it, and answers how many characters its measure looked up. n stands beside the slice: the pass
+// answers it, and an iterator over the rows would add a None that no call gives.
+fn store<'a>(
+    call: &Call<'a>,
+    e: Entry,
+    held: &mut Option<FontWidths<'a, 256>>,
+    rows: &mut [Row],
+    n: usize,
+) -> usize
     requires { Storable call.now e held.old rows.old n }
     ensures { Stored call.now e rows.old n held.new rows.new result }
 {
-    held.keep(call, e.state.font);
-    let (row, looked) = meter::row_of(call, &held.font, e);
+    hold(call, e.state.font, held);
+    let (row, looked) = meter::row_of(call, held, e);
     rows[n] = row;
     looked
 }
 
 // The pass from a place on. Its spans' rows stand first in the slice.
+#[tactic(auto, using(crate::proofs::Laws::pass_ways))]
 pub fn read_pass(
     call: &Call,
     from: usize,
@@ -129,16 +112,11 @@ pub fn read_pass(
 {
     let mut p = Reached::start(from, start);
     let mut blank = true;
-    let mut held = Held::new();
-    // A step is a slice: where it ends its bytes say.
-    let how = loop {
-        if p.at == call.msg.len() {
-            break How::End;
-        }
-        let at = p.at;
-        let end = token::slice_end(call.msg, at);
-        let step = step_at(call, at, end, p.state, blank)?;
-        p.at = end;
+    let mut held: Option<FontWidths<256>> = None;
+    let mut how = How::End;
+    for (at, s) in Slices::new(call.msg, from) {
+        let step = step_at(call, at, s, p.state, blank)?;
+        p.at = at + s.len();
         match step {
             Step::Go(next, b) => {
                 p.state = next;
@@ -152,11 +130,15 @@ pub fn read_pass(
             }
             Step::Cut(next) => {
                 p.state = next;
-                break How::Cut;
+                how = How::Cut;
+                break;
             }
-            Step::Turn => break How::Turn,
+            Step::Turn => {
+                how = How::Turn;
+                break;
+            }
         }
-    };
+    }
     Ok(PassDone {
         how,
         rect: start.rect,

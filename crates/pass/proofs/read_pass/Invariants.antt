@@ -1,10 +1,10 @@
-use Prim.Native.Nat.{◌-◌}
-use lib.ListN.{length}
+use mathlib.Core.Path.{◌≡◌}
+use Rattle.token.specs.Token.{slices_from}
+use Rattle.pass.specs.declared.How.TheVariants.{End}
 use Rattle.pass.proofs.Laws.{Stands}
 use Rattle.pass.proofs.read_pass.Given as goal
 
-abbrev pub invariant-loop-p : goal.invariant-loop-p
-invariant-loop-p l = Stands l.call l.from l.start l.initial.rows l.rows l.p l.blank l.held
-
-abbrev pub decreases-loop-p : goal.decreases-loop-p
-decreases-loop-p l = length l.call.msg.now - l.p.at
+abbrev pub invariant-loop-at : goal.invariant-loop-at
+invariant-loop-at l =
+    (goal.iterator-loop-at).can_next l.at-iterator × (goal.iterator-loop-at).is_finite l.at-iterator
+    × Stands l.call l.from l.start l.initial.rows l.rows (slices_from l.at-iterator.at l.at-iterator.msg.now) l.p l.blank l.held × (l.how ≡ End)
