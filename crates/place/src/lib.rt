@@ -275,15 +275,16 @@ impl<'a> Pass<'a> {
     }
 }
 
-// The records of a pass are stored, or its first refusal is answered.
+// The records of a pass are stored first in the slice, or its first refusal is answered; what is behind them stays.
 pub fn place_pass(config: Config, rect: Rect, rows: &[Row], out: &mut [Span]) -> Result<(), Refusal>
     requires { Placeable rect rows.now out.old }
-    ensures { PassPlaced config rect rows.now out.new result }
+    ensures { PassPlaced config rect rows.now out.old out.new result }
 {
     if rows.is_empty() {
         return Ok(());
     }
     check_justification(rows)?;
+    let out = &mut out[..rows.len()];
     let heads = sums::link_rows(rows, out);
     let pass = Pass {
         config,
