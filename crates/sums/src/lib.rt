@@ -29,7 +29,7 @@ pub struct Sums {
 pub fn matches_span(r: &Row, e: &Row) -> bool
     ensures { result ≡ same_row r.now e.now }
 {
-    r.just_page == e.just_page && r.line == e.line && r.just_line == e.just_line
+    (r.just_page, r.line, r.just_line) == (e.just_page, e.line, e.just_line)
 }
 
 impl Sums {
