@@ -48,7 +48,8 @@ fn font_only(fault: Option<Fault>) -> Option<Fault>
     fault.filter(|f| f.number != 12)
 }
 
-// The lines so far, each at its number, and the first font fault met while they were collected.
+// The lines so far, each at its number, and the first font fault met while they were collected: an Option beside them and no Result, since lines
+// are collected past a fault.
 #[derive(Drop)]
 struct LineList {
     lines: ArrayVec<TextLine, 256>,
@@ -103,7 +104,7 @@ fn gap(char_height: u8, above: Option<TextLine>, line: TextLine) -> u32
     }
 }
 
-// What stands above the foot of a line, and below it, and the first font fault of its page justification.
+// What stands above the foot of a line, and below it, and the first font fault of its page justification (beside them, as in the definition).
 #[derive(Clone, Copy)]
 pub struct Heights {
     pub above: u64,
@@ -112,7 +113,7 @@ pub struct Heights {
 }
 
 // The lines of page justification just, summed up: what stands above the foot of each by its number, what they take in all (that is also
-// above the foot of a line that is not there), and their first font fault.
+// above the foot of a line that is not there), and their first font fault. just is a number, as in `Row`: an enum would be its number again.
 #[derive(Drop)]
 pub struct PageLines {
     pub just: u8,

@@ -15,7 +15,7 @@ use rows::Row;
 use walk::Chain;
 
 // Of the rows so far: what stands before the span and what from there on, how many of them are of the group, the spacing of its last row, and
-// its first fault.
+// its first fault. It is an Option beside the numbers and no Result, since the sums go on past a fault, as the definition's do.
 #[derive(Clone, Copy, Default)]
 pub struct Sums {
     pub before: u64,
@@ -78,7 +78,8 @@ impl Sums {
 }
 
 // The rows of a line are chained by their links, each in its record until that is written; the answer has, for each line number, how many rows
-// there are from its first on. 0 is for none: a link has a record's own field, of 16 bits, and no memory besides. No row is marked.
+// there are from its first on. 0 is for none: a link has a record's own field, of 16 bits, and no memory besides. No row is marked. The cast is
+// proved; try_from would add an error that no call gives.
 pub fn link_rows(rows: &[Row], out: &mut [Span]) -> [u16; 256]
     requires { RowsAsked rows.now out.old }
     ensures { ChainedTo rows.now result out.new }
