@@ -117,7 +117,7 @@ pub struct Heights {
 #[derive(Drop)]
 pub struct PageLines {
     pub just: u8,
-    feet: [u32; 256],
+    feet: ArrayVec<u32, 256>,
     total: u32,
     fault: Option<Fault>,
 }
@@ -127,15 +127,14 @@ impl PageLines {
         ensures { PageHeights char_height rows.now just result }
     {
         let list = line_list(rows, just);
-        let mut feet = [0u32; 256];
+        let mut feet = ArrayVec::new();
         let mut total: u32 = 0;
         let mut above: Option<TextLine> = None;
-        for (i, line) in list.lines.iter().enumerate() {
+        for line in list.lines.iter() {
             total += gap(char_height, above, *line) + u32::from(line.height);
-            feet[i] = total;
+            feet.push(total);
             above = Some(*line);
         }
-        feet[list.lines.len()..].fill(total);
         PageLines {
             just,
             feet,
@@ -149,7 +148,11 @@ impl PageLines {
         requires { foot_in self.now line ≤ self.now.total }
         ensures { result ≡ heights_in self.now line }
     {
-        let foot = self.feet[usize::from(line)];
+        let foot = self
+            .feet
+            .get(usize::from(line))
+            .copied()
+            .unwrap_or(self.total);
         Heights {
             above: u64::from(foot),
             below: u64::from(self.total - foot),
