@@ -52,9 +52,9 @@ pub record LinesOf (rows : List Row) (just : ℕ) (l : LineList) : Type 0 where
 
 -- ---- the feet
 
--- what stands above the foot of a line
+-- what stands above the foot of a line; all that there is, where no line has the number
 abbrev pub foot_in : PageLines → ℕ → ℕ
-foot_in p line = get_or p.feet line 0
+foot_in p line = get_or p.feet.items line p.total
 
 abbrev pub heights_in : PageLines → ℕ → Heights
 heights_in p line =

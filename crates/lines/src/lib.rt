@@ -48,7 +48,8 @@ fn font_only(fault: Option<Fault>) -> Option<Fault>
     fault.filter(|f| f.number != 12)
 }
 
-// The lines so far, each at its number, and the first font fault met while they were collected.
+// The lines so far, each at its number, and the first font fault met while they were collected: an Option beside them and no Result, since lines
+// are collected past a fault.
 #[derive(Drop)]
 struct LineList {
     lines: ArrayVec<TextLine, 256>,
@@ -103,7 +104,7 @@ fn gap(char_height: u8, above: Option<TextLine>, line: TextLine) -> u32
     }
 }
 
-// What stands above the foot of a line, and below it, and the first font fault of its page justification.
+// What stands above the foot of a line, and below it, and the first font fault of its page justification (beside them, as in the definition).
 #[derive(Clone, Copy)]
 pub struct Heights {
     pub above: u64,
@@ -112,11 +113,11 @@ pub struct Heights {
 }
 
 // The lines of page justification just, summed up: what stands above the foot of each by its number, what they take in all (that is also
-// above the foot of a line that is not there), and their first font fault.
+// above the foot of a line that is not there), and their first font fault. just is a number, as in `Row`: an enum would be its number again.
 #[derive(Drop)]
 pub struct PageLines {
     pub just: u8,
-    feet: [u32; 256],
+    feet: ArrayVec<u32, 256>,
     total: u32,
     fault: Option<Fault>,
 }
@@ -126,15 +127,14 @@ impl PageLines {
         ensures { PageHeights char_height rows.now just result }
     {
         let list = line_list(rows, just);
-        let mut feet = [0u32; 256];
+        let mut feet = ArrayVec::new();
         let mut total: u32 = 0;
         let mut above: Option<TextLine> = None;
-        for (i, line) in list.lines.iter().enumerate() {
+        for line in list.lines.iter() {
             total += gap(char_height, above, *line) + u32::from(line.height);
-            feet[i] = total;
+            feet.push(total);
             above = Some(*line);
         }
-        feet[list.lines.len()..].fill(total);
         PageLines {
             just,
             feet,
@@ -148,7 +148,11 @@ impl PageLines {
         requires { foot_in self.now line ≤ self.now.total }
         ensures { result ≡ heights_in self.now line }
     {
-        let foot = self.feet[usize::from(line)];
+        let foot = self
+            .feet
+            .get(usize::from(line))
+            .copied()
+            .unwrap_or(self.total);
         Heights {
             above: u64::from(foot),
             below: u64::from(self.total - foot),

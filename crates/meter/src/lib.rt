@@ -52,7 +52,7 @@ fn version_fault(version: Option<u16>, id: u16) -> Option<Fault>
     }
 }
 
-// 12 with its code where a character is missing.
+// 12 with its code where a character is missing. The cast is proved; try_from would add an error that no call gives.
 fn missing_fault(measure: Result<u32, Missing>) -> Option<Fault>
     requires { CodeFits measure }
     ensures { result ≡ missing measure }
@@ -115,7 +115,8 @@ pub fn widths_of<'a>(call: &Call<'a>, number: u8) -> Option<FontWidths<'a, 256>>
     }))
 }
 
-// The same of any span: font is its font.
+// The same of any span: font is its font. That it is, is asked here and below (WidthsOf): a font's widths know neither the call nor the span, and
+// the font is kept from span to span.
 fn gauge_of(call: &Call, font: &Option<FontWidths<256>>, e: Entry) -> (Gauge, usize)
     requires entry_in { EntryIn call.now e }
     requires widths_of { WidthsOf call.now e.state.font font.now }

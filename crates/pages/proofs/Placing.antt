@@ -91,14 +91,15 @@ module _ {call : Call} {p : Reached} {rows₀ : List Row} {out : List Span} {row
     pub render_room : from + n ≤ length out
     render_room = omega (arith, spans.counted, spans.within, asked.counted, asked.ready.room)
 
-    pub render_asks : Placeable d.rect (rows_of rows n) (take (from + n - from) (drop from out))
+    pub render_asks : Placeable d.rect (rows_of rows n) (take (length out - from) (drop from out))
     render_asks =
         let a : Accepts call.file.now call.table = accepts call.file.now call.table call.opened call.bytes in
         asks_part rows n out from render_few render_rows render_room (omega (arith, spans.inside.across, a.good.config.width_most))
         (omega (arith, spans.inside.down, a.good.config.height_most))
 
     -- and placed: part are its records, and o is the answer
-    module _ {part : List Span} {o : Result (Unit {0}) Refusal} (placed : PassPlaced c d.rect (rows_of rows n) part o) where
+    module _ {part : List Span} {o : Result (Unit {0}) Refusal}
+        (placed : PassPlaced c d.rect (rows_of rows n) (take (length out - from) (drop from out)) part o) where
       fault_is_law : rows_fault c d.rect (rows_of rows n) ≡ pass_fault s d.rect es
       fault_is_law = ap (rows_fault c d.rect) spans.spans ∙ pass_fault_law (meter_in call.file.now call.msg.now) (meter_told call.file.now call.msg.now) c d.rect es
 
@@ -113,18 +114,18 @@ module _ {call : Call} {p : Reached} {rows₀ : List Row} {out : List Span} {row
 
       -- the page's records
       abbrev out' : List Span
-      out' = put_mid from (from + n - from) out part
+      out' = put_mid from (length out - from) out part
 
-      room : length part ≡ length (take (from + n - from) (drop from out)) → length out' ≡ length out
-      room e = part_room from (from + n - from) out part (omega (arith, render_room)) e
+      room : length part ≡ length (take (length out - from) (drop from out)) → length out' ≡ length out
+      room e = part_room from (length out - from) out part (omega (arith, render_room)) e
 
-      pub render_stop : {x : Refusal} → o ≡ Err x → length part ≡ length (take (from + n - from) (drop from out)) → Rendered out' (Err x)
+      pub render_stop : {x : Refusal} → o ≡ Err x → length part ≡ length (take (length out - from) (drop from out)) → Rendered out' (Err x)
       render_stop e l = record { ends = ends_by (ap result_err e); done = tt; rowed = read.room; room = room l }
 
       -- the records of the page so far, and its characters looked up
       written : o ≡ Ok tt → spans_of out' (from + n) ≡ spans_of out from ++ pass_records s d.rect es
       written e =
-          written_part rows n placed e render_rows out from (from + n - from) (omega (arith, render_room))
+          written_part rows n placed e render_rows out from (length out - from) (omega (arith, render_room))
           ∙ ap (λ (l : List Span). spans_of out from ++ l) records_are
 
       looked_so : o ≡ Ok tt → p.looked + d.reached.looked ≡ looked_for call.file.now call.msg.now out' (from + n)
@@ -148,7 +149,7 @@ module _ {call : Call} {p : Reached} {rows₀ : List Row} {out : List Span} {row
             reached = record { at = d.reached.at; count = from + n; looked = p.looked + d.reached.looked; state = d.reached.state };
           }
 
-      pub render_done : o ≡ Ok tt → length part ≡ length (take (from + n - from) (drop from out)) → Rendered out' (Ok so_far)
+      pub render_done : o ≡ Ok tt → length part ≡ length (take (length out - from) (drop from out)) → Rendered out' (Ok so_far)
       render_done e l =
           record {
             ends = ends_by (ap result_err e);

@@ -55,15 +55,14 @@ fn render_pass(
 {
     let d = pass::read_pass(call, p.at, p.state, rows)?;
     let q = d.reached;
-    let count = p.count + q.count;
     place::place_pass(
         call.table.config,
         d.rect,
         &rows[..q.count],
-        &mut out[p.count..count],
+        &mut out[p.count..],
     )?;
     let reached = Reached {
-        count,
+        count: p.count + q.count,
         looked: p.looked + q.looked,
         ..q
     };

@@ -9,9 +9,10 @@ use lib.ListN.{length, set, take, drop}
 use Rattle.std.specs.Prelude.{Option, Some, None, Result, Ok, Err}
 use Rattle.std.specs.Option.{option_or}
 use borrow.Rule.Slice.PartMut.{put_mid}
-use Rattle.std.proofs.lemmas.Slice.{take-put_mid}
+use Rattle.std.proofs.lemmas.Slice.{take-put_mid, drop-put_mid}
 use Rattle.std.proofs.lemmas.List.{length-map, length-drop, length-take-le, length-set, at_drop_more, at_drop_all, take_more, take_more_set, take_all}
-use Rattle.std.proofs.lemmas.List.{get_or-take, map-append, take-append-drop, nil_from_length}
+use Rattle.std.proofs.lemmas.List.{get_or-take, map-append, take-append-drop, nil_from_length, length-take, take-append-le}
+use lib.Seq.{take-append-add}
 use borrow.Author.Tests.{le-ltb, le-leb, lt-leb, ltb-true}
 use Rattle.base.specs.Pick.{pick}
 use Rattle.refusal.specs.declared.Refusal.{Refusal}
@@ -378,42 +379,50 @@ module _ {p : Pass} {out : List Span} {a : Across} (x : PlacedAcross p out a) wh
 -- ---- `place_pass`
 
 -- a pass without spans
-pub pass_empty : {c : Config} {q : Rect} {rows : List Row} {out : List Span} → Placeable q rows out → length rows ≡ 0 → PassPlaced c q rows out (Ok tt)
+pub pass_empty : {c : Config} {q : Rect} {rows : List Row} {out : List Span} → length rows ≡ 0 → PassPlaced c q rows out out (Ok tt)
 unfolding rows_fault rows_records or_else
-pass_empty {c} {q} {rows} {out} a e =
+pass_empty {c} {q} {rows} e =
     let x : rows ≡ [] = nil_from_length rows e in
-    let y : out ≡ [] = nil_from_length out (omega (arith, a.room)) in
-    record { fault = rw x; written = λ _. rw (x, y) }
+    record { fault = rw x; written = λ _. rw x; behind = refl }
 
 -- 9, and else row by row
 pub pass_back : {c : Config} {q : Rect} {rows : List Row} {out : List Span} {f : Refusal} → Some f ≡ back_rows 0 0 0 rows
-    → PassPlaced c q rows out (Err f)
+    → PassPlaced c q rows out out (Err f)
 unfolding rows_fault
 pass_back {c} {q} {rows} {f = f} e =
-    record { fault = sym (some_first f (back_rows 0 0 0 rows) (first_fault (span_fault_at c q rows) rows) (sym e)); written = λ g. cc }
+    record { fault = sym (some_first f (back_rows 0 0 0 rows) (first_fault (span_fault_at c q rows) rows) (sym e)); written = λ g. cc; behind = refl }
 
-pub pass_on : {p : Pass} → None ≡ back_rows 0 0 0 p.rows.now → {out : List Span} {r : Result (Unit {0}) Refusal} → RowByRow p out r
-    → PassPlaced p.config p.rect p.rows.now out r
+-- part are the records that stand first, and were lent alone
+pub pass_on : {p : Pass} → None ≡ back_rows 0 0 0 p.rows.now → {part : List Span} {r : Result (Unit {0}) Refusal} → RowByRow p part r → {n : ℕ}
+    → n ≡ length p.rows.now → {out : List Span} → n ≤ length out → length part ≡ length (take n out)
+    → PassPlaced p.config p.rect p.rows.now out (put_mid 0 n out part) r
 unfolding rows_fault
-pass_on {p} e d =
+pass_on {p} e {part} d {n} here {out} room long =
+    let m : length part ≡ n = long ∙ length-take-le n out room in
     record {
       fault = d.fault ∙ sym (none_first (back_rows 0 0 0 p.rows.now) (first_fault (span_fault_at p.config p.rect p.rows.now) p.rows.now) (sym e));
-      written = d.written;
+      written = λ g. take-put_mid 0 n out part (length p.rows.now) (omega arith) (omega arith) ∙ d.written g;
+      behind = drop-put_mid 0 n out part (length p.rows.now) (omega arith) (omega arith) m;
     }
 
 -- ---- a pass of the first n rows of a slice, with the records from number at on of another
 
 pub asks_part : {q : Rect} (rows : List Row) (n : ℕ) (out : List Span) (at : ℕ) → at + n ≤ 2048 → n ≤ length rows → at + n ≤ length out
-    → q.left + q.width ≤ 4096 → q.top + q.height ≤ 4096 → Placeable q (rows_of rows n) (take (at + n - at) (drop at out))
+    → q.left + q.width ≤ 4096 → q.top + q.height ≤ 4096 → Placeable q (rows_of rows n) (take (length out - at) (drop at out))
 asks_part rows n out at f h k a d =
     let x : length (rows_of rows n) ≡ n = length-take-le n rows h in
-    let y : length (take (at + n - at) (drop at out)) ≡ at + n - at = length-take-le (at + n - at) (drop at out) (omega (arith, length-drop at out)) in
+    let y : length (take (length out - at) (drop at out)) ≡ length out - at =
+    length-take-le (length out - at) (drop at out) (omega (arith, length-drop at out)) in
     record { few = omega (arith, x); room = omega (arith, x, y); across = a; down = d }
 
 pub written_part : {c : Config} {q : Rect} (rows : List Row) (n : ℕ) {part : List Span} {r : Result (Unit {0}) Refusal}
-    → PassPlaced c q (rows_of rows n) part r → r ≡ Ok tt → n ≤ length rows → (out : List Span) (at k : ℕ) → at ≤ length out
+    → {was : List Span} → PassPlaced c q (rows_of rows n) was part r → r ≡ Ok tt → n ≤ length rows → (out : List Span) (at k : ℕ) → at ≤ length out
     → spans_of (put_mid at k out part) (at + n) ≡ spans_of out at ++ rows_records c q (rows_of rows n)
 unfolding rows_records
 written_part {c} {q} rows n {part} p e h out at k a =
-    let x : length part ≡ n = ap length (p.written e) ∙ length-map (rows_of rows n) (record_at c q (rows_of rows n)) ∙ length-take-le n rows h in
-    take-put_mid at k out part (at + n) (omega (arith, x)) a ∙ ap (λ (l : List Span). spans_of out at ++ l) (p.written e)
+    let x : length (rows_of rows n) ≡ n = length-take-le n rows h in
+    let y : take n part ≡ rows_records c q (rows_of rows n) = ap (λ (m : ℕ). take m part) (sym x) ∙ p.written e in
+    let z : n ≤ length part =
+    omega (arith, x, length-take n part, ap length y, length-map (rows_of rows n) (record_at c q (rows_of rows n))) in
+    ap (λ (m : ℕ). take (m + n) (put_mid at k out part)) (sym (length-take-le at out a)) ∙ take-append-add (spans_of out at) (part ++ drop k (drop at out)) n
+    ∙ ap (λ (l : List Span). spans_of out at ++ l) (take-append-le n part (drop k (drop at out)) z ∙ y)

@@ -1,5 +1,5 @@
 -- Document 01, "Placing", over the measured rows of a pass: the records, and the first of refusals 9 to 14.
-use Rattle.std.specs.Prelude.{ℕ, suc, ◌+◌, ◌-◌, ◌/◌, ◌≤◌, ◌≡◌, Bool, not, ◌&&◌, ◌||◌, List, [], ◌∷◌, map, leb, ltb, eqb, length}
+use Rattle.std.specs.Prelude.{ℕ, suc, ◌+◌, ◌-◌, ◌/◌, ◌≤◌, ◌≡◌, Bool, not, ◌&&◌, ◌||◌, List, [], ◌∷◌, map, leb, ltb, eqb, length, take, drop}
 use Rattle.std.specs.Prelude.{Option, Some, None, Result, Ok, Err}
 use Rattle.std.specs.Option.{option_or}
 use Rattle.std.specs.Result.{result_err}
@@ -138,10 +138,10 @@ module _ (c : Config) (q : Rect) (rs : List Row) where
   unfoldable pub rows_records : List Span
   rows_records = map record_at rs
 
--- rows can be placed in the rectangle q, each in its record
+-- rows can be placed in the rectangle q, each in its record: of a slice the first ones
 pub record Placeable (q : Rect) (rows : List Row) (out : List Span) : Type 0 where
   pub few : length rows ≤ 2048
-  pub room : length rows ≡ length out
+  pub room : length rows ≤ length out
   pub across : q.left + q.width ≤ 4096
   pub down : q.top + q.height ≤ 4096
 
@@ -154,7 +154,8 @@ pub record RowByRow (p : Pass) (out : List Span) (r : Result (Unit {0}) Refusal)
   pub fault : result_err r ≡ first_fault (span_fault_at p.config p.rect p.rows.now) p.rows.now
   pub written : r ≡ Ok tt → out ≡ rows_records p.config p.rect p.rows.now
 
--- the pass was placed: 9 before them
-pub record PassPlaced (c : Config) (q : Rect) (rows : List Row) (out : List Span) (r : Result (Unit {0}) Refusal) : Type 0 where
+-- the pass was placed: 9 before them; out' holds the rows' records, and behind these what out had
+pub record PassPlaced (c : Config) (q : Rect) (rows : List Row) (out out' : List Span) (r : Result (Unit {0}) Refusal) : Type 0 where
   pub fault : result_err r ≡ rows_fault c q rows
-  pub written : r ≡ Ok tt → out ≡ rows_records c q rows
+  pub written : r ≡ Ok tt → take (length rows) out' ≡ rows_records c q rows
+  pub behind : drop (length rows) out' ≡ drop (length rows) out

@@ -20,7 +20,8 @@ use rows::Row;
 use shared::Pass;
 use sums::Sums;
 
-// Whether a row's justification goes back from that of the row before.
+// Whether a row's justification goes back from that of the row before. The three have no order that could be derived: lines are compared for
+// equality alone.
 fn goes_back(before: &Row, e: &Row) -> bool
     ensures { result ≡ goes_back_from before.now.just_page before.now.line before.now.just_line e.now }
 {
@@ -65,7 +66,7 @@ fn trunc(n: u8, x: u16) -> u16
 }
 
 // Where a span with a before it and b from there on stands in a rectangle: at its start, in the middle, or at its end. The six numbers are
-// of one axis, across or down, and no other function has them together.
+// of one axis, across or down, and no other function has them together. The casts are proved; try_from would add an error that no call gives.
 fn stand(just: u8, grid: u8, from: u16, size: u16, a: u64, b: u64) -> u16
     requires { (a + b ≤ size) × (from + size ≤ 4096) }
     ensures { (result ≡ stands_at just grid from size a b) × (result ≤ 4096) }
@@ -141,7 +142,8 @@ impl<'a> Pass<'a> {
         rows::put_mark(out, i, x + 1);
     }
 
-    // All rows of the group of r are marked: the table tells what stands before each, and together they take total.
+    // All rows of the group of r are marked: the table tells what stands before each, and together they take total. The line's chain is walked by
+    // hand: its links are read from out, which each turn marks, so that no iterator can hold it.
     fn mark_group(&self, out: &mut [Span], r: &Row, total: u64, table: &[u64; 257])
         requires { GroupAsked self.now out.old r.now total table.now }
         ensures { CrossedTo self.now out.old out.new }
@@ -149,7 +151,6 @@ impl<'a> Pass<'a> {
         let mut p: usize = 0;
         let mut sum = table[0];
         let mut k = sums::first_of(self.heads, r.line);
-        // Along the line's chain, not by an index.
         while 0 < k {
             let i = self.rows.len() - k;
             let e = &self.rows[i];
@@ -177,7 +178,8 @@ impl<'a> Pass<'a> {
         self.mark_group(out, r, o.before + o.after, &table);
     }
 
-    // Row i is placed across with its whole group, if it is not yet; or the refusal of its group is answered.
+    // Row i is placed across with its whole group, if it is not yet; or the refusal of its group is answered. That out is chained (Ready) is asked
+    // at each step: out is lent and changes, and a struct that held it would be made anew for each row.
     fn place_group(&self, out: &mut [Span], i: usize) -> Result<(), Refusal>
         requires { Ready self.now out.old × (i < length self.now.rows.now) }
         ensures { GroupPlaced self.now out.old i out.new result }
@@ -275,15 +277,16 @@ impl<'a> Pass<'a> {
     }
 }
 
-// The records of a pass are stored, or its first refusal is answered.
+// The records of a pass are stored first in the slice, or its first refusal is answered; what is behind them stays.
 pub fn place_pass(config: Config, rect: Rect, rows: &[Row], out: &mut [Span]) -> Result<(), Refusal>
     requires { Placeable rect rows.now out.old }
-    ensures { PassPlaced config rect rows.now out.new result }
+    ensures { PassPlaced config rect rows.now out.old out.new result }
 {
     if rows.is_empty() {
         return Ok(());
     }
     check_justification(rows)?;
+    let out = &mut out[..rows.len()];
     let heads = sums::link_rows(rows, out);
     let pass = Pass {
         config,

@@ -67,35 +67,41 @@ module _ (l : List Span) (i : ℕ) (s : Span) (l' : List Span) (p : l' ≡ set l
 
 -- ---- records that are not written yet
 
+-- what a field says once a record s was put at i
+module _ (field : Span → ℕ) (l : List Span) (i : ℕ) (s : Span) (l' : List Span) (p : l' ≡ set l i s) where
+  field_put : i < length l → field (span_at l' i) ≡ field s
+  field_put h = ap field (span_put l i s l' p h)
+
+  field_stays : (j : ℕ) → (j ≡ i → ⊥) → field (span_at l' j) ≡ field (span_at l j)
+  field_stays j n = ap field (span_stays l i s l' p j n)
+
+  -- it was not changed
+  field_kept : i < length l → field s ≡ field (span_at l i) → (j : ℕ) → field (span_at l' j) ≡ field (span_at l j)
+  field_kept h e j = look (eqb j i) refl
+    where
+      look : (t : Bool) → eqb j i ≡ t → field (span_at l' j) ≡ field (span_at l j)
+      look true q = rw (eqb-true j i q) (field_put h ∙ e)
+      look false q = field_stays j (eqb-false j i q)
+
 module _ {l : List Span} {i k : ℕ} {l' : List Span} (p : LinkPut l i k l') (h : i < length l) where
   pub link_put : link_at l' i ≡ k
-  link_put = ap (λ (y : Span). y.kind) (span_put _ _ _ _ p.put h)
+  link_put = field_put (λ (y : Span). y.kind) _ _ _ _ p.put h
 
   pub link_stays : (j : ℕ) → (j ≡ i → ⊥) → link_at l' j ≡ link_at l j
-  link_stays j n = ap (λ (y : Span). y.kind) (span_stays _ _ _ _ p.put j n)
+  link_stays = field_stays (λ (y : Span). y.kind) _ _ _ _ p.put
 
-  -- the marks all stay
   pub marks_stay : (j : ℕ) → mark_at l' j ≡ mark_at l j
-  marks_stay j = look (eqb j i) refl
-    where
-      look : (t : Bool) → eqb j i ≡ t → mark_at l' j ≡ mark_at l j
-      look true q = rw (eqb-true j i q) (ap (λ (y : Span). y.x) (span_put _ _ _ _ p.put h))
-      look false q = ap (λ (y : Span). y.x) (span_stays _ _ _ _ p.put j (eqb-false j i q))
+  marks_stay = field_kept (λ (y : Span). y.x) _ _ _ _ p.put h refl
 
 module _ {l : List Span} {i x : ℕ} {l' : List Span} (p : MarkPut l i x l') (h : i < length l) where
   pub mark_put : mark_at l' i ≡ x
-  mark_put = ap (λ (y : Span). y.x) (span_put _ _ _ _ p.put h)
+  mark_put = field_put (λ (y : Span). y.x) _ _ _ _ p.put h
 
   pub mark_stays : (j : ℕ) → (j ≡ i → ⊥) → mark_at l' j ≡ mark_at l j
-  mark_stays j n = ap (λ (y : Span). y.x) (span_stays _ _ _ _ p.put j n)
+  mark_stays = field_stays (λ (y : Span). y.x) _ _ _ _ p.put
 
-  -- the links all stay
   pub links_stay : (j : ℕ) → link_at l' j ≡ link_at l j
-  links_stay j = look (eqb j i) refl
-    where
-      look : (t : Bool) → eqb j i ≡ t → link_at l' j ≡ link_at l j
-      look true q = rw (eqb-true j i q) (ap (λ (y : Span). y.kind) (span_put _ _ _ _ p.put h))
-      look false q = ap (λ (y : Span). y.kind) (span_stays _ _ _ _ p.put j (eqb-false j i q))
+  links_stay = field_kept (λ (y : Span). y.kind) _ _ _ _ p.put h refl
 
 -- ---- faults
 

@@ -2,22 +2,23 @@
 use Prim.Native.Nat.{ℕ, zero, suc, ◌+◌, ◌-◌, ◌*◌, ◌≤◌, ◌<◌}
 use mathlib.Core.Path.{◌≡◌, refl, sym, ◌∙◌, ap}
 use mathlib.Core.Bool.{Bool, true, false}
-use mathlib.Core.List.{List}
+use mathlib.Core.List.{List, [], ◌∷◌}
 use native.Mathlib.Omega.{arith}
 use lib.Dec.{eqb}
-use lib.ListN.{length, get_or, set, take, length-set, replicate}
+use lib.ListN.{length, get_or, set, drop, length-set, replicate}
 use lib.Seq.{get_or-set_same, get_or-set_other}
-use borrow.Author.Tests.{eqb-true, eqb-false}
-use Rattle.std.proofs.lemmas.List.{take_more, get_or-replicate}
+use borrow.Author.Tests.{eq-eqb, eqb-true, eqb-false}
+use Rattle.std.proofs.lemmas.List.{drop_all, get_or-replicate}
+use Rattle.std.proofs.Common.{drop-cons}
 use Rattle.base.specs.Pick.{pick}
 use Rattle.layout.specs.declared.Span.{Span}
 use Rattle.rows.specs.declared.Row.{Row}
 use Rattle.rows.specs.Rows.{blank_row, row_at, link_at, mark_at, LinkPut, MarkPut}
 use Rattle.rows.proofs.Laws.{link_put, link_stays, marks_stay, mark_put, mark_stays, links_stay}
 use Rattle.sums.specs.declared.Sums.{Sums}
-use Rattle.sums.specs.Sums.{advanced, sums, none_yet, GrownTo}
-use Rattle.sums.specs.Chain.{first_in, until_last, RowsAsked, Linked, Chained, Walk}
-use Rattle.sums.proofs.Groups.{sums_last, other_line}
+use Rattle.sums.specs.Sums.{advanced, sums, none_yet, GrownTo, SumsOf}
+use Rattle.sums.specs.Chain.{first_in, rows_in, rows_from, RowsAsked, Linked, Chained, Links, Walk}
+use Rattle.sums.proofs.Groups.{other_line}
 
 -- ---- the first of a line
 
@@ -40,26 +41,60 @@ module _ (rows : List Row) (b : ℕ) where
       step true q ih p = eqb-true (row_at rows (length rows - suc k)).line b q
       step false q ih p = ih p
 
--- a row more before the last k
-last_row : (rows : List Row) (q : Row) (k : ℕ) → suc k ≤ length rows
-    → sums q none_yet (until_last rows k) ≡ advanced q (sums q none_yet (until_last rows (suc k))) (row_at rows (length rows - suc k))
-last_row rows q k h =
-    let e : length rows - k ≡ length rows - suc k + 1 = omega arith in
-    ap (λ (m : ℕ). sums q none_yet (take m rows)) e ∙ ap (sums q none_yet) (take_more rows (length rows - suc k) blank_row (omega arith))
-    ∙ sums_last q none_yet (until_last rows (suc k)) (row_at rows (length rows - suc k))
+-- ---- the rows of a line
 
--- the rows up to the first of q's line among the last k add nothing
-skip : (rows : List Row) (b : ℕ) (q : Row) → q.line ≡ b → (k : ℕ) → k ≤ length rows
-    → sums q none_yet (until_last rows (first_in rows b k)) ≡ sums q none_yet (until_last rows k)
-skip rows b q hq zero h = refl
-skip rows b q hq (suc k) h = step (eqb (row_at rows (length rows - suc k)).line b) refl (skip rows b q hq k (omega arith))
+module _ (rows : List Row) (b : ℕ) where
+  -- before its first one there is none
+  rows_first : (k : ℕ) → rows_in rows b (first_in rows b k) ≡ rows_in rows b k
+  rows_first zero = refl
+  rows_first (suc k) = step (eqb (row_at rows (length rows - suc k)).line b) refl (rows_first k)
+    where
+      step : (t : Bool) → eqb (row_at rows (length rows - suc k)).line b ≡ t → rows_in rows b (first_in rows b k) ≡ rows_in rows b k
+          → rows_in rows b (pick t (suc k) (first_in rows b k)) ≡ pick t (row_at rows (length rows - suc k) ∷ rows_in rows b k) (rows_in rows b k)
+      step true q ih = rw q refl
+      step false q ih = ih
+
+  pub rows_length : (k : ℕ) → length (rows_in rows b k) ≤ k
+  rows_length zero = omega arith
+  rows_length (suc k) = step (eqb (row_at rows (length rows - suc k)).line b) (rows_length k)
+    where
+      step : (t : Bool) → length (rows_in rows b k) ≤ k
+          → length (pick t (row_at rows (length rows - suc k) ∷ rows_in rows b k) (rows_in rows b k)) ≤ suc k
+      step true h = omega (arith, h)
+      step false h = omega (arith, h)
+
+  from_in : (k : ℕ) → (0 < k → (row_at rows (length rows - k)).line ≡ b) → rows_from rows k ≡ rows_in rows b k
+  from_in zero h = refl
+  from_in (suc k) h = ap (λ (d : ℕ). rows_in rows d (suc k)) (h (omega arith))
+
+  -- from the first one on
+  from_first : (k : ℕ) → rows_from rows (first_in rows b k) ≡ rows_in rows b k
+  from_first k = from_in (first_in rows b k) (first_line rows b k) ∙ rows_first k
+
+-- the sums are those of the line's rows
+sums_line : (rows : List Row) (q : Row) (o : Sums) (k : ℕ) → k ≤ length rows
+    → sums q o (rows_in rows q.line k) ≡ sums q o (drop (length rows - k) rows)
+sums_line rows q o zero h = ap (sums q o) (sym (drop_all (length rows - 0) rows (omega arith)))
+sums_line rows q o (suc k) h =
+    let next : suc (length rows - suc k) ≡ length rows - k = omega arith in
+    step
+    (λ p. sums_line rows q p k (omega arith) ∙ ap (λ (m : ℕ). sums q p (drop m rows)) (sym next))
+    (eqb (row_at rows (length rows - suc k)).line q.line) refl
+    ∙ sym (ap (sums q o) (drop-cons rows (length rows - suc k) blank_row (omega arith)))
   where
-    step : (t : Bool) → eqb (row_at rows (length rows - suc k)).line b ≡ t
-        → sums q none_yet (until_last rows (first_in rows b k)) ≡ sums q none_yet (until_last rows k)
-        → sums q none_yet (until_last rows (pick t (suc k) (first_in rows b k))) ≡ sums q none_yet (until_last rows (suc k))
-    step true p ih = refl
-    step false p ih =
-        ih ∙ last_row rows q k h ∙ other_line q (sums q none_yet (until_last rows (suc k))) (row_at rows (length rows - suc k)) b hq p
+    step : ((p : Sums) → sums q p (rows_in rows q.line k) ≡ sums q p (drop (suc (length rows - suc k)) rows))
+        → (t : Bool) → eqb (row_at rows (length rows - suc k)).line q.line ≡ t
+        → sums q o (pick t (row_at rows (length rows - suc k) ∷ rows_in rows q.line k) (rows_in rows q.line k))
+        ≡ sums q (advanced q o (row_at rows (length rows - suc k))) (drop (suc (length rows - suc k)) rows)
+    step others true p = others (advanced q o (row_at rows (length rows - suc k)))
+    step others false p =
+        others o
+        ∙ ap (λ (y : Sums). sums q y (drop (suc (length rows - suc k)) rows)) (sym (other_line q o (row_at rows (length rows - suc k)) q.line refl p))
+
+pub sums_rows : (rows : List Row) (q : Row) (o : Sums) → sums q o (rows_in rows q.line (length rows)) ≡ sums q o rows
+sums_rows rows q o =
+    let z : length rows - length rows ≡ 0 = omega arith in
+    sums_line rows q o (length rows) (omega arith) ∙ ap (λ (m : ℕ). sums q o (drop m rows)) z
 
 -- ---- `link_rows`: the last k rows are chained, and none of them is marked
 
@@ -137,13 +172,6 @@ module _ {rows : List Row} {out : List Span} {heads : List ℕ} (c : Chained row
     walk_start =
         rw first_is (record { within = first_le rows r.line (length rows); line = first_line rows r.line (length rows) })
 
-    -- nothing of the line stands before
-    pub walk_begun : (q : Row) → q.line ≡ r.line → sums q none_yet (until_last rows k) ≡ none_yet
-    walk_begun q hq =
-        let z : length rows - length rows ≡ 0 = omega arith in
-        ap (λ (m : ℕ). sums q none_yet (until_last rows m)) first_is ∙ skip rows r.line q hq (length rows) (omega arith)
-        ∙ ap (λ (m : ℕ). sums q none_yet (take m rows)) z
-
   module _ {r : Row} {k : ℕ} (w : Walk rows r k) (more : 0 < k) {k' : ℕ} (e : k' ≡ link_at out (length rows - k)) where
     one_back : suc (k - 1) ≡ k
     one_back = omega arith
@@ -164,45 +192,65 @@ module _ {rows : List Row} {out : List Span} {heads : List ℕ} (c : Chained row
           line = λ h. rw next_is (first_line rows r.line (k - 1) (omega (arith, next_is)));
         }
 
-    -- the sums of a row of the line are those with one row more
-    pub walked : (q : Row) → q.line ≡ r.line
-        → sums q none_yet (until_last rows k') ≡ advanced q (sums q none_yet (until_last rows k)) (row_at rows (length rows - k))
-    walked q hq =
-        ap (λ (m : ℕ). sums q none_yet (until_last rows m)) next_is ∙ skip rows r.line q hq (k - 1) (omega (arith, w.within))
-        ∙ last_row rows q (k - 1) (omega (arith, w.within))
-        ∙ ap (λ (m : ℕ). advanced q (sums q none_yet (until_last rows m)) (row_at rows (length rows - m))) one_back
+-- ---- `Chain`
 
--- ---- `offset_horiz`: the sums of the rows before the last k
+pub links_of : {rows : List Row} {out : List Span} {heads : List ℕ} → Chained rows out heads → Links rows out
+links_of c = record { asked = c.asked; nexts = c.linked.nexts }
 
-pub record Summing (rows : List Row) (out : List Span) (heads : List ℕ) (r : Row) (o : Sums) (k : ℕ) : Type 0 where
-  pub chained : Chained rows out heads
-  pub walk : Walk rows r k
-  pub is : o ≡ sums r none_yet (until_last rows k)
-  pub most : o.before + o.after ≤ 8589934592 * (length rows - k)
-  pub rows_in : o.count ≤ length rows - k
+module _ {rows : List Row} {out : List Span} {heads : List ℕ} (c : Chained rows out heads) {b : ℕ} (h : b < 256) {k : ℕ} (e : k ≡ get_or heads b 0) where
+  begins : k ≡ first_in rows b (length rows)
+  begins = e ∙ c.linked.firsts b h
 
-pub sums_start : {rows : List Row} {out : List Span} {heads : List ℕ} → Chained rows out heads → {r : Row} → r.line < 256 → {o : Sums}
-    → o ≡ none_yet → {k : ℕ} → k ≡ get_or heads r.line 0 → Summing rows out heads r o k
-sums_start c {r} h e f =
-    record {
-      chained = c;
-      walk = walk_start c r h f;
-      is = e ∙ sym (walk_begun c r h f r refl);
-      most = rw e (omega arith);
-      rows_in = rw e (omega arith);
-    }
+  pub chain_in : k ≤ length rows
+  chain_in = omega (arith, begins, first_le rows b (length rows))
 
-module _ {rows : List Row} {out : List Span} {heads : List ℕ} {r : Row} {o : Sums} {k : ℕ} (z : Summing rows out heads r o k) where
-  module _ (more : 0 < k) {k' : ℕ} (e : k' ≡ link_at out (length rows - k)) where
-    pub sums_less : k' < k
-    sums_less = walk_less z.chained z.walk more e
+  pub chain_of : rows_from rows k ≡ rows_in rows b (length rows)
+  chain_of = ap (rows_from rows) begins ∙ from_first rows b (length rows)
 
-    pub sums_on : {p : Sums} → GrownTo o (advanced r o (row_at rows (length rows - k))) p → Summing rows out heads r p k'
-    sums_on {p} d =
-        record {
-          chained = z.chained;
-          walk = walk_on z.chained z.walk more e;
-          is = d.is ∙ ap (λ (y : Sums). advanced r y (row_at rows (length rows - k))) z.is ∙ sym (walked z.chained z.walk more e r refl);
-          most = omega (arith, d.most, z.most, sums_less, z.walk.within);
-          rows_in = omega (arith, d.rows, z.rows_in, sums_less, z.walk.within);
-        }
+-- the first of its rows, and the others
+module _ {rows : List Row} {out : List Span} (c : Links rows out) {k : ℕ} (w : k ≤ length rows) (more : 0 < k) {k' : ℕ}
+    (e : k' ≡ link_at out (length rows - k)) where
+  last_but : suc (k - 1) ≡ k
+  last_but = omega arith
+
+  follows : k' ≡ first_in rows (row_at rows (length rows - k)).line (k - 1)
+  follows =
+      e ∙ ap (λ (m : ℕ). link_at out (length rows - m)) (sym last_but) ∙ c.nexts (k - 1) (omega arith)
+      ∙ ap (λ (m : ℕ). first_in rows (row_at rows (length rows - m)).line (k - 1)) last_but
+
+  pub next_in : k' ≤ length rows
+  next_in = omega (arith, follows, first_le rows (row_at rows (length rows - k)).line (k - 1))
+
+  pub next_first : rows_from rows k ≡ row_at rows (length rows - k) ∷ rows_from rows k'
+  next_first =
+      ap (rows_from rows) (sym last_but) ∙ own (k - 1)
+      ∙ ap (λ (m : ℕ). row_at rows (length rows - m) ∷ rows_in rows (row_at rows (length rows - m)).line (k - 1)) last_but
+      ∙ ap (λ (l : List Row). row_at rows (length rows - k) ∷ l)
+      (sym (ap (rows_from rows) follows ∙ from_first rows (row_at rows (length rows - k)).line (k - 1)))
+    where
+      own : (m : ℕ) → rows_from rows (suc m) ≡ row_at rows (length rows - suc m) ∷ rows_in rows (row_at rows (length rows - suc m)).line m
+      own m = rw (eq-eqb (row_at rows (length rows - suc m)).line (row_at rows (length rows - suc m)).line refl) refl
+
+-- ---- `offset_horiz`: o are the sums so far, and es the rows that are left
+
+pub record Summing (rows : List Row) (r : Row) (o : Sums) (es : List Row) : Type 0 where
+  pub is : sums r o es ≡ sums r none_yet rows
+  pub most : o.before + o.after + 8589934592 * length es ≤ 17592186044416
+  pub few : o.count + length es ≤ 2048
+
+module _ {rows : List Row} {r : Row} where
+  pub sums_start : length rows ≤ 2048 → {o : Sums} → o ≡ none_yet → Summing rows r o (rows_in rows r.line (length rows))
+  sums_start h e =
+      let l : length (rows_in rows r.line (length rows)) ≤ length rows = rows_length rows r.line (length rows) in
+      rw e (record { is = sums_rows rows r none_yet; most = omega arith; few = omega arith })
+
+  pub sums_on : {o : Sums} {e : Row} {es : List Row} → Summing rows r o (e ∷ es) → {p : Sums} → GrownTo o (advanced r o e) p → Summing rows r p es
+  sums_on {o} {e} {es} z d =
+      record {
+        is = ap (λ (y : Sums). sums r y es) d.is ∙ z.is;
+        most = omega (arith, d.most, z.most);
+        few = omega (arith, d.rows, z.few);
+      }
+
+  pub sums_done : {o : Sums} → Summing rows r o [] → SumsOf rows r o
+  sums_done z = record { is = z.is; most = omega (arith, z.most) }

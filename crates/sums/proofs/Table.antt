@@ -2,27 +2,25 @@
 use Prim.Native.Nat.{ℕ, zero, suc, ◌+◌, ◌-◌, ◌*◌, ◌≤◌, ◌<◌}
 use mathlib.Core.Path.{◌≡◌, refl, sym, ◌∙◌, ap}
 use mathlib.Core.Bool.{Bool, true, false}
-use mathlib.Core.List.{List, [], ◌∷◌, ◌++◌}
+use mathlib.Core.List.{List, [], ◌∷◌, ◌++◌, append_assoc, append-nil}
 use native.Mathlib.Numerals.{add-one}
 use native.Mathlib.Omega.{arith}
 use lib.Dec.{leb, eqb}
-use lib.ListN.{length, get_or, set, take, drop, length-set, replicate}
+use lib.ListN.{length, get_or, set, take, drop, length-set, length-append, replicate}
 use lib.Seq.{get_or-set_same, get_or-set_other}
 use Rattle.std.specs.List.{sum}
 use Rattle.std.proofs.lemmas.List.{take-take, drop-take}
 use Rattle.std.proofs.lemmas.List.Sums.{sum_by_more, sum_by-take-drop}
 use borrow.Author.Tests.{le-leb, lt-leb, leb-true, leb-false, eqb-true, eqb-false}
 use Rattle.base.specs.Pick.{pick}
-use Rattle.layout.specs.declared.Span.{Span}
 use Rattle.rows.specs.declared.Row.{Row}
-use Rattle.rows.specs.Rows.{row_at, link_at}
 use Rattle.sums.specs.declared.Sums.{Sums}
 use Rattle.sums.specs.Sums.{same_row, gap_of, joined, sums, none_yet, GrownTo}
-use Rattle.sums.specs.Chain.{until_last, Chained, Walk}
-use Rattle.sums.specs.Table.{upto, Small, AddedRow, Gathered, Entered}
+use Rattle.sums.specs.Chain.{rows_in}
+use Rattle.sums.specs.Table.{upto, Small, AddedRow, Gathered, Room, Entered, TableOf}
 use Rattle.sums.proofs.Laws.{advance_yes, advance_no}
 use Rattle.sums.proofs.Groups.{line_is_law, same_as, alike_gap, alike_all, sums_last}
-use Rattle.sums.proofs.Chain.{walk_start, walk_begun, walk_less, walk_on, walked}
+use Rattle.sums.proofs.Chain.{rows_length, sums_rows}
 
 -- ---- `add_row`
 
@@ -119,7 +117,7 @@ module _ (r e : Row) {t : Bool} (f : t ≡ same_row r e) (l : List ℕ) (o : Sum
         rows = omega (arith, d.rows, k.rows);
       }
 
--- ---- `gather`: the rows before the last k are added up
+-- ---- `gather`: the rows done are added up, and es are left
 
 nil_at : (n j : ℕ) → get_or (replicate {A = ℕ} n 0) j 0 ≡ 0
 nil_at zero j = refl
@@ -130,58 +128,57 @@ nil_sums : (k : ℕ) → upto (replicate {A = ℕ} 257 0) k ≡ 0
 nil_sums zero = refl
 nil_sums (suc k) = omega (arith, nil_sums k, nil_at 257 (suc k))
 
-pub record Gathering (rows : List Row) (out : List Span) (heads : List ℕ) (r : Row) (l : List ℕ) (o : Sums) (k : ℕ) : Type 0 where
-  pub chained : Chained rows out heads
-  pub walk : Walk rows r k
-  pub gathered : Gathered (length rows - k) (until_last rows k) r l o
+pub record Gathering (rows : List Row) (r : Row) (l : List ℕ) (o : Sums) (es : List Row) : Type 0 where
+  pub done : List Row
+  pub gathered : Gathered (length done) done r l o
+  pub parts : done ++ es ≡ rows_in rows r.line (length rows)
+  pub few : length done + length es ≤ 2048
 
-pub gather_start : {rows : List Row} {out : List Span} {heads : List ℕ} → Chained rows out heads → {l : List ℕ} → l ≡ replicate 257 0
-    → {r : Row} → r.line < 256 → {o : Sums} → o ≡ none_yet → {k : ℕ} → k ≡ get_or heads r.line 0 → Gathering rows out heads r l o k
-gather_start c {l} el {r} h eo ek =
-    record {
-      chained = c;
-      walk = walk_start c r h ek;
-      gathered =
-          record {
-            own = eo ∙ sym (walk_begun c r h ek r refl);
-            tells = λ q s.
-                ap (λ (x : Sums). x.before) (walk_begun c r h ek q (sym (line_is_law r q s)))
-                ∙ sym (ap (λ (x : List ℕ). upto x q.span) el ∙ nil_sums q.span);
-            small = record { size = ap length el; most = λ j. omega (arith, ap (λ (x : List ℕ). get_or x j 0) el ∙ nil_at 257 j) };
-            most = rw eo (omega arith);
-            rows = rw eo (omega arith);
-          };
-    }
+module _ {rows : List Row} {r : Row} where
+  pub gather_start : length rows ≤ 2048 → {l : List ℕ} → l ≡ replicate 257 0 → {o : Sums} → o ≡ none_yet
+      → Gathering rows r l o (rows_in rows r.line (length rows))
+  gather_start h {l} el eo =
+      record {
+        done = [];
+        gathered =
+            record {
+              own = eo;
+              tells = λ q s. sym (ap (λ (x : List ℕ). upto x q.span) el ∙ nil_sums q.span);
+              small = record { size = ap length el; most = λ j. omega (arith, ap (λ (x : List ℕ). get_or x j 0) el ∙ nil_at 257 j) };
+              most = rw eo (omega arith);
+              rows = rw eo (omega arith);
+            };
+        parts = refl;
+        few = omega (arith, rows_length rows r.line (length rows));
+      }
 
-module _ {rows : List Row} {out : List Span} {heads : List ℕ} {r : Row} {l : List ℕ} {o : Sums} {k : ℕ}
-    (z : Gathering rows out heads r l o k) where
-  module _ (more : 0 < k) {k' : ℕ} (e : k' ≡ link_at out (length rows - k)) where
-    pub gather_less : k' < k
-    gather_less = walk_less z.chained z.walk more e
+  pub gather_room : {l : List ℕ} {o : Sums} {es : List Row} → Gathering rows r l o es → Room l o
+  gather_room z =
+      let g = z.gathered in
+      record { small = small_more g.small (omega (arith, z.few)); sum = omega (arith, g.most, z.few); rows = omega (arith, g.rows, z.few) }
 
-    here : Row
-    here = row_at rows (length rows - k)
+  pub gather_on : {l : List ℕ} {o : Sums} {e : Row} {es : List Row} → Gathering rows r l o (e ∷ es) → {m : List ℕ} {q : Sums}
+      → Entered r e l o m q → Gathering rows r m q es
+  gather_on {e = e} {es = es} z {m} {q} d =
+      let n : length (z.done ++ (e ∷ [])) ≡ length z.done + 1 = length-append z.done (e ∷ []) in
+      record {
+        done = z.done ++ (e ∷ []);
+        gathered = rw n (d (length z.done) z.done z.gathered);
+        parts = append_assoc z.done (e ∷ []) es ∙ z.parts;
+        few = omega (arith, n, z.few);
+      }
 
-    pub gather_on : {m : List ℕ} {q : Sums} → Entered r (row_at rows (length rows - k)) l o m q → Gathering rows out heads r m q k'
-    unfolding here
-    gather_on {m} {q} d =
-        let g : Gathered (length rows - k + 1) (until_last rows k ++ (here ∷ [])) r m q = d (length rows - k) (until_last rows k) z.gathered in
-        let up : length rows - k + 1 ≤ length rows - k' = omega (arith, gather_less, z.walk.within) in
-        record {
-          chained = z.chained;
-          walk = walk_on z.chained z.walk more e;
-          gathered =
-              record {
-                own = g.own ∙ on r refl;
-                tells = λ p s. ap (λ (y : Sums). y.before) (sym (on p (sym (line_is_law r p s)))) ∙ g.tells p s;
-                small = small_more g.small (omega arith);
-                most = omega (arith, g.most);
-                rows = omega (arith, g.rows);
-              };
-        }
-      where
-        on : (p : Row) → p.line ≡ r.line → sums p none_yet (until_last rows k ++ (here ∷ [])) ≡ sums p none_yet (until_last rows k')
-        on p hp = sums_last p none_yet (until_last rows k) here ∙ sym (walked z.chained z.walk more e p hp)
+  pub gather_done : {l : List ℕ} {o : Sums} {es : List Row} → Gathering rows r l o es → es ≡ [] → TableOf rows r l
+  gather_done z e =
+      let all : z.done ≡ rows_in rows r.line (length rows) = sym (append-nil z.done) ∙ ap (λ (x : List Row). z.done ++ x) (sym e) ∙ z.parts in
+      record {
+        size = z.gathered.small.size;
+        tells = λ q s.
+            let b : q.line ≡ r.line = sym (line_is_law r q s) in
+            ap (λ (x : Sums). x.before)
+            (sym (sums_rows rows q none_yet) ∙ ap (λ (d : ℕ). sums q none_yet (rows_in rows d (length rows))) b ∙ ap (sums q none_yet) (sym all))
+            ∙ z.gathered.tells q s;
+      }
 
 -- ---- `reach`
 

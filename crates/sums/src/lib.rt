@@ -8,11 +8,14 @@ ghost use Rattle.sums.specs.Sums.{same_row, gap_of, joined, advanced, none_yet, 
 ghost use Rattle.sums.specs.Chain.{RowsAsked, Chained, ChainedTo};
 ghost use Rattle.sums.specs.Table.{upto, Small, AddedRow, Room, Entered, TableOf};
 
+mod walk;
+
 use layout::{Fault, Span};
 use rows::Row;
+use walk::Chain;
 
 // Of the rows so far: what stands before the span and what from there on, how many of them are of the group, the spacing of its last row, and
-// its first fault.
+// its first fault. It is an Option beside the numbers and no Result, since the sums go on past a fault, as the definition's do.
 #[derive(Clone, Copy, Default)]
 pub struct Sums {
     pub before: u64,
@@ -26,7 +29,7 @@ pub struct Sums {
 pub fn matches_span(r: &Row, e: &Row) -> bool
     ensures { result ≡ same_row r.now e.now }
 {
-    r.just_page == e.just_page && r.line == e.line && r.just_line == e.just_line
+    (r.just_page, r.line, r.just_line) == (e.just_page, e.line, e.just_line)
 }
 
 impl Sums {
@@ -75,7 +78,8 @@ impl Sums {
 }
 
 // The rows of a line are chained by their links, each in its record until that is written; the answer has, for each line number, how many rows
-// there are from its first on. 0 is for none: a link has a record's own field, of 16 bits, and no memory besides. No row is marked.
+// there are from its first on. 0 is for none: a link has a record's own field, of 16 bits, and no memory besides. No row is marked. The cast is
+// proved; try_from would add an error that no call gives.
 pub fn link_rows(rows: &[Row], out: &mut [Span]) -> [u16; 256]
     requires { RowsAsked rows.now out.old }
     ensures { ChainedTo rows.now result out.new }
@@ -106,17 +110,14 @@ pub fn next_of(out: &[Span], j: usize) -> usize
 }
 
 // The sums of a pass, for the span with the row r: its line is walked.
+#[tactic(auto, using(crate::proofs::Chain::sums_on, crate::proofs::Chain::sums_done))]
 pub fn offset_horiz(rows: &[Row], out: &[Span], heads: &[u16; 256], r: &Row) -> Sums
     requires { Chained rows.now out.now heads.now }
     ensures { SumsOf rows.now r.now result }
 {
     let mut o = Sums::default();
-    let mut k = first_of(heads, r.line);
-    // Along the line's chain, not by an index.
-    while 0 < k {
-        let j = rows.len() - k;
-        o = o.advance(r, &rows[j]);
-        k = next_of(out, j);
+    for e in Chain::new(rows, out, heads, r.line) {
+        o = o.advance(r, e);
     }
     o
 }
@@ -143,18 +144,15 @@ fn enter(table: &mut [u64; 257], r: &Row, o: Sums, e: &Row) -> Sums
     o
 }
 
-// The table of the group of r, made in a table of zeros. The walk is that of `offset_horiz`: one fold for both would hand the table from row to row.
+// The table of the group of r, made in a table of zeros.
+#[tactic(auto, using(crate::proofs::Table::gather_start, crate::proofs::Table::gather_room, crate::proofs::Table::gather_on))]
 pub fn gather(rows: &[Row], out: &[Span], heads: &[u16; 256], r: &Row, table: &mut [u64; 257])
     requires { Chained rows.now out.now heads.now × (table.old ≡ replicate 257 0) }
     ensures { TableOf rows.now r.now table.new }
 {
     let mut o = Sums::default();
-    let mut k = first_of(heads, r.line);
-    // Along the line's chain, not by an index.
-    while 0 < k {
-        let j = rows.len() - k;
-        o = enter(table, r, o, &rows[j]);
-        k = next_of(out, j);
+    for e in Chain::new(rows, out, heads, r.line) {
+        o = enter(table, r, o, e);
     }
 }
 
