@@ -2,7 +2,6 @@
 use Rattle.std.specs.Prelude.{Option, Some, None, Result, Ok, Err}
 use Prim.Native.Nat.{ℕ, ◌+◌, ◌-◌, ◌*◌, ◌≤◌, ◌<◌}
 use mathlib.Core.Path.{◌≡◌, refl, sym, ◌∙◌, ap, subst}
-use mathlib.Core.Bool.{Bool, true, false}
 use mathlib.Core.List.{List}
 use native.Mathlib.Omega.{arith}
 use native.Mathlib.Nat.{sub-zero}
@@ -20,7 +19,7 @@ use Rattle.layout.specs.declared.Answer.{Answer}
 use Rattle.layout.specs.declared.Answer.TheVariants.{On, Off, End, Refused}
 use Rattle.layout.specs.Types.{items, Board}
 use Rattle.refusal.specs.Refusals.{refusal}
-use Rattle.layout.specs.Listing.{Page, on, off, pages, answer_of, records_of, Result as Told, said, numbered, result_on, result}
+use Rattle.layout.specs.Listing.{Page, pages, Result as Told, said, numbered, result_on, result}
 use Rattle.layout.proofs.Room.{result_room}
 use Rattle.layout.specs.declared.Span.{Span}
 use Rattle.rows.specs.declared.Row.{Row}
@@ -32,45 +31,11 @@ use Rattle.meter.specs.declared.call.Call.{Call}
 use Rattle.meter.specs.Opened.{AcceptedTable}
 use Rattle.pages.specs.declared.Pages.{Pages}
 use Rattle.pages.specs.declared.PageShown.{PageShown}
-use Rattle.pages.specs.Pages.{board_in, board_of as board_for, Ready, looked_for, first_of, todo, next_told, InMessage, weight, IfShown, Advances, NextRead}
+use Rattle.pages.specs.declared.PageShown.TheVariants.{On as OnPage, Off as OffPage}
+use Rattle.pages.specs.Pages.{board_in, board_of as board_for, Ready, first_of, todo, next_told, InMessage, weight, IfShown, Advances, NextRead}
 use Rattle.pages.proofs.Boards.{board_is}
 use Rattle.pages.proofs.Answers.{pages_todo, first_in_law}
-use Rattle.answer.specs.Answer.{written_by, told, bare, on_by, placed_by, count_of, RecordRoom, CountsTold, Numbered, Answered, PlacedAs}
-
--- ---- an answer of a page
-
--- as its page says it, on or off
-shown_said : (b : Bool) (d n : ℕ) (l : List Span) → SpanRoom n l
-    → told (pick b (On d n) (Off d)) l
-    ≡ record { answer = answer_of (pick b (on d (spans_of l n)) (off d)); written = records_of (pick b (on d (spans_of l n)) (off d)) }
-shown_said true d n l h = rw (spans_length l n h)
-shown_said false d n l h = refl
-
--- what an answer of a page says, on or off: b
-module _ (b : Bool) (x : PageShown) where
-  abbrev so : Placed
-  so = pick b (on_by x) (bare (Off x.duration))
-
-  shown_answer : so.answer ≡ pick b (On x.duration x.count) (Off x.duration)
-  shown_answer = go b
-    where
-      go : (t : Bool) → (pick t (on_by x) (bare (Off x.duration))).answer ≡ pick t (On x.duration x.count) (Off x.duration)
-      go true = refl
-      go false = refl
-
-  shown_few : (all : ℕ) → x.count ≤ all → count_of so.answer ≤ all
-  shown_few all h = go b
-    where
-      go : (t : Bool) → count_of (pick t (on_by x) (bare (Off x.duration))).answer ≤ all
-      go true = h
-      go false = omega arith
-
-  shown_counts : (file msg : List ℕ) (l : List Span) → x.looked ≡ looked_for file msg l x.count → CountsTold file msg l so
-  shown_counts file msg l h = go b
-    where
-      go : (t : Bool) → CountsTold file msg l (pick t (on_by x) (bare (Off x.duration)))
-      go true = record { looked = h; spans = refl }
-      go false = record { looked = refl; spans = refl }
+use Rattle.answer.specs.Answer.{written_by, told, bare, placed_by, count_of, RecordRoom, CountsTold, Numbered, Answered, PlacedAs}
 
 -- ---- the loop
 
@@ -117,19 +82,20 @@ module _ {call : Call} {number : ℕ} {rows₀ : List Row} {out₀ : List Span} 
 
     asked : (j : ℕ) (u : Result (Option PageShown) Refusal) → Goes u → j ≡ 0
         → told (placed_by u i).answer out' ≡ numbered i (next_told s call.msg.now out' q u) j
-    asked j (Ok (Some x)) g h =
-        ap (λ (a : Answer). told a out') (shown_answer x.on x)
-        ∙ rw h (shown_said x.on x.duration x.count out' (omega (arith, g.few, read.room, z.room, z.ready.room)))
+    asked j (Ok (Some (OnPage d n k))) g h = rw (h, spans_length out' n (omega (arith, g.few, read.room, z.room, z.ready.room)))
+    asked j (Ok (Some (OffPage d))) g h = rw h
     asked j (Ok None) g h = refl
     asked j (Err x) g h = rw h
 
     few : (u : Result (Option PageShown) Refusal) → Goes u → count_of (placed_by u i).answer ≤ length call.msg.now
-    few (Ok (Some x)) g = shown_few x.on x (length call.msg.now) g.few
+    few (Ok (Some (OnPage d n k))) g = g.few
+    few (Ok (Some (OffPage d))) g = omega arith
     few (Ok None) g = omega arith
     few (Err x) g = omega arith
 
     counts : (u : Result (Option PageShown) Refusal) → Goes u → CountsTold call.file.now call.msg.now out' (placed_by u i)
-    counts (Ok (Some x)) g = shown_counts x.on x call.file.now call.msg.now out' g.looked
+    counts (Ok (Some (OnPage d n k))) g = record { looked = g.looked; spans = refl }
+    counts (Ok (Some (OffPage d))) g = record { looked = refl; spans = refl }
     counts (Ok None) g = record { looked = refl; spans = refl }
     counts (Err x) g = record { looked = refl; spans = refl }
 

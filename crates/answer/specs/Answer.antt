@@ -1,6 +1,5 @@
 -- An answer as the code gives it: with its records in a slice.
 use Rattle.std.specs.Prelude.{ℕ, ◌≤◌, ◌<◌, ◌≡◌, List, [], length, Option, Some, None, Result, Ok, Err}
-use Rattle.base.specs.Pick.{pick}
 use Rattle.sign.specs.Sign.{sign_file}
 use Rattle.refusal.specs.declared.Refusal.{Refusal}
 use Rattle.layout.specs.declared.Span.{Span}
@@ -12,8 +11,9 @@ use Rattle.counts.specs.declared.Placed.{Placed}
 use Rattle.counts.specs.Placing.{chars_looked, with_counts}
 use Rattle.rows.specs.Rows.{SpanRoom, spans_of}
 use Rattle.meter.specs.declared.call.Call.{Call}
-use Rattle.pages.specs.Pages.{board_of, IfShown}
+use Rattle.pages.specs.Pages.{board_of, shown_count, shown_looked, IfShown}
 use Rattle.pages.specs.declared.PageShown.{PageShown}
+use Rattle.pages.specs.declared.PageShown.TheVariants.{On as OnPage, Off as OffPage}
 
 -- the records that an answer counts: the first of the slice
 abbrev pub written_by : Answer → List Span → List Span
@@ -25,23 +25,21 @@ written_by (Refused r) l = []
 abbrev pub told : Answer → List Span → Told
 told a l = record { answer = a; written = written_by a l }
 
--- an answer without records, and one with its counts
+-- an answer without records
 abbrev pub bare : Answer → Placed
 bare a = record { answer = a; looked = 0; spans = 0 }
 
-abbrev pub on_by : PageShown → Placed
-on_by x = record { answer = On x.duration x.count; looked = x.looked; spans = x.count }
-
 -- the answer that comes next, after c others
 abbrev pub placed_by : Result (Option PageShown) Refusal → ℕ → Placed
-placed_by (Ok (Some x)) c = pick x.on (on_by x) (bare (Off x.duration))
+placed_by (Ok (Some (OnPage d n k))) c = record { answer = On d n; looked = k; spans = n }
+placed_by (Ok (Some (OffPage d))) c = bare (Off d)
 placed_by (Ok None) c = bare (End c)
 placed_by (Err r) c = bare (Refused r)
 
 -- the answer that comes next, after count others, can be told in 16 bits
 pub record Answerable (n : Result (Option PageShown) Refusal) (count : ℕ) : Type 0 where
   pub few : count < 65536
-  pub countable : IfShown (λ x. (x.count < 65536) × (x.looked < 65536)) n
+  pub countable : IfShown (λ x. (shown_count x < 65536) × (shown_looked x < 65536)) n
 
 -- how many records an answer has
 abbrev pub count_of : Answer → ℕ

@@ -10,7 +10,7 @@ use layout::{Answer, Span};
 use meter::Call;
 use pages::{PageShown, Pages};
 use refusal::Refusal;
-use rows::{BLANK_ROW, ROOM, Row, SHORT_ROOM};
+use rows::{ROOM, Row, SHORT_ROOM};
 
 // An answer without records: both counts are 0.
 fn unplaced(answer: Answer) -> Placed
@@ -23,22 +23,30 @@ fn unplaced(answer: Answer) -> Placed
     }
 }
 
-// The answer that comes next, after count others.
-fn answer_of(next: Result<Option<PageShown>, Refusal>, count: usize) -> Placed
-    requires { Answerable next count }
-    ensures { result ≡ placed_by next count }
+// The answer that comes next, after so many before. The casts are proved to lose nothing; try_from would add an error that no call gives.
+fn answer_of(next: Result<Option<PageShown>, Refusal>, before: usize) -> Placed
+    requires { Answerable next before }
+    ensures { result ≡ placed_by next before }
 {
     match next {
-        Ok(Some(x)) if x.on => {
-            let spans = x.count as u16;
+        Ok(
+            Some(
+                PageShown::On {
+                    duration,
+                    count,
+                    looked,
+                },
+            ),
+        ) => {
+            let spans = count as u16;
             Placed {
-                answer: Answer::On(x.duration, spans),
-                looked: x.looked as u16,
+                answer: Answer::On(duration, spans),
+                looked: looked as u16,
                 spans,
             }
         }
-        Ok(Some(x)) => unplaced(Answer::Off(x.duration)),
-        Ok(None) => unplaced(Answer::End(count as u16)),
+        Ok(Some(PageShown::Off(duration))) => unplaced(Answer::Off(duration)),
+        Ok(None) => unplaced(Answer::End(before as u16)),
         Err(r) => unplaced(Answer::Refused(r)),
     }
 }
@@ -59,14 +67,14 @@ fn numbered(call: &Call, number: usize, rows: &mut [Row], out: &mut [Span]) -> P
     answer_of(pages.next(call, rows, out), number)
 }
 
-// The same, with rows for as many spans as the message can have: one for each of its bytes.
+// The same, with rows for as many spans as the message can have: one for each of its bytes. fits: the bytes of the array have to fit usize.
 fn paged<const N: usize>(call: &Call, number: usize, out: &mut [Span]) -> Placed
     requires rowed { length call.now.msg.now ≤ N }
     requires fits { N < 65536 }
     requires room { length call.now.msg.now ≤ length out.old }
     ensures { Numbered call.now number out.old out.new result }
 {
-    let mut rows = [BLANK_ROW; N];
+    let mut rows = [Row::default(); N];
     numbered(call, number, &mut rows, out)
 }
 
@@ -84,7 +92,7 @@ pub fn placed(file: &[u8], msg: &[u8], number: usize, room: usize, out: &mut [Sp
         return unplaced(Answer::Refused(Refusal::of(4)));
     }
     let call = Call { file, table, msg };
-    if msg.len() <= 256 {
+    if msg.len() <= SHORT_ROOM {
         return paged::<SHORT_ROOM>(&call, number, out);
     }
     paged::<ROOM>(&call, number, out)

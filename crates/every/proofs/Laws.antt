@@ -26,48 +26,44 @@ use Rattle.admit.proofs.Laws.{Opens, admits, denied_is, opens}
 use Rattle.layout.specs.declared.Span.{Span}
 use Rattle.layout.specs.Types.{items, Board}
 use Rattle.layout.specs.Fonts.{board_of}
-use Rattle.layout.specs.Listing.{Page, on, off, pages}
+use Rattle.layout.specs.Listing.{Page, pages}
 use Rattle.rows.specs.declared.Row.{Row}
 use Rattle.rows.specs.Rows.{SpanRoom, spans_of}
 use Rattle.rows.proofs.Laws.{spans_length}
 use Rattle.meter.specs.declared.call.Call.{Call}
 use Rattle.pages.specs.declared.Pages.{Pages}
 use Rattle.pages.specs.declared.PageShown.{PageShown}
-use Rattle.pages.specs.Pages.{board_of as board_for, first_of, todo, next_told, InMessage, weight, IfShown, Advances, NextAsked, NextRead}
+use Rattle.pages.specs.declared.PageShown.TheVariants.{On, Off}
+use Rattle.pages.specs.Pages.{board_of as board_for, first_of, todo, shown_page, shown_count, next_told, InMessage, weight, IfShown, Advances, NextAsked, NextRead}
 use Rattle.pages.proofs.Boards.{board_is}
 use Rattle.pages.proofs.Answers.{pages_todo, first_in_law}
 use Rattle.every.specs.declared.Shown.{Shown}
 use Rattle.every.specs.declared.Walked.{Walked}
 use Rattle.every.specs.declared.Listed.{Listed}
-use Rattle.every.specs.All.{shown, answers_in, records_in, refusal_in, Gathered, gather, none_but, gathered_on, gathered, listed_as, counts_of, unless_refused}
+use Rattle.every.specs.All.{answers_in, records_in, refusal_in, Gathered, gather, none_but, gathered_on, gathered, listed_as, counts_of, unless_refused}
 use Rattle.every.specs.Walk.{showns_of, Countable, shown_by, WalkAsked, OpenedTo, Gathers, listed_by, Written, Settles}
 use Rattle.every.proofs.Few.{answers_few, records_few}
 
 -- ---- an answer of a page
 
--- as its page says it
-module _ (d c n : ℕ) (l : List Span) (h : SpanRoom c l) (rest : List Page) where
-  abbrev said : Bool → Shown
-  said b = pick b (shown 1 d n c) (shown 2 d n 0)
+-- as its page says it, after n records, which are before those of l
+module _ (n : ℕ) (l : List Span) (rest : List Page) where
+  page_answers : (x : PageShown) → SpanRoom (shown_count x) l
+      → answers_in n (shown_page l x ∷ rest) ≡ shown_by x n ∷ answers_in (n + (shown_by x n).count) rest
+  page_answers (On d c k) h = rw (spans_length l c h)
+  page_answers (Off d) h = rw (add-zero n)
 
-  abbrev page : Bool → Page
-  page b = pick b (on d (spans_of l c)) (off d)
+  page_records_law : (x : PageShown) → records_in (shown_page l x ∷ rest) ≡ spans_of l (shown_by x n).count ++ records_in rest
+  page_records_law (On d c k) = refl
+  page_records_law (Off d) = refl
 
-  page_answers : (b : Bool) → answers_in n (page b ∷ rest) ≡ said b ∷ answers_in (n + (said b).count) rest
-  page_answers true = rw (spans_length l c h)
-  page_answers false = rw (add-zero n)
+  page_refusal : (x : PageShown) → refusal_in (shown_page l x ∷ rest) ≡ refusal_in rest
+  page_refusal (On d c k) = refl
+  page_refusal (Off d) = refl
 
-  page_records_law : (b : Bool) → records_in (page b ∷ rest) ≡ spans_of l (said b).count ++ records_in rest
-  page_records_law true = refl
-  page_records_law false = refl
-
-  page_refusal : (b : Bool) → refusal_in (page b ∷ rest) ≡ refusal_in rest
-  page_refusal true = refl
-  page_refusal false = refl
-
-  said_few : (b : Bool) → (said b).count ≤ c
-  said_few true = omega arith
-  said_few false = omega arith
+counts_same : (x : PageShown) (n : ℕ) → (shown_by x n).count ≡ shown_count x
+counts_same (On d c k) n = refl
+counts_same (Off d) n = refl
 
 -- ---- the records behind others
 
@@ -206,20 +202,20 @@ module _ {call : Call} {rows₀ : List Row} {shown₀ : List Shown} {out₀ : Li
       y_room : length y ≡ length out - n
       y_room = rest_length n out y z.few_out read.room
 
-      fits : SpanRoom x.count y
+      fits : SpanRoom (shown_count x) y
       fits = omega (arith, adv.few, y_room, counted_records_law, z.long_out, z.asked.room.records call.small)
 
       abbrev answer : Shown
       answer = shown_by x n
 
       left_answers : answers_in n left ≡ answer ∷ answers_in (n + answer.count) (todo s call.msg.now q)
-      left_answers = ap (answers_in n) (is_left c) ∙ page_answers x.duration x.count n y fits (todo s call.msg.now q) x.on
+      left_answers = ap (answers_in n) (is_left c) ∙ page_answers n y (todo s call.msg.now q) x fits
 
       left_records : records_in left ≡ spans_of y answer.count ++ records_in (todo s call.msg.now q)
-      left_records = ap records_in (is_left c) ∙ page_records_law x.duration x.count n y fits (todo s call.msg.now q) x.on
+      left_records = ap records_in (is_left c) ∙ page_records_law n y (todo s call.msg.now q) x
 
       left_refusal : refusal_in left ≡ refusal_in (todo s call.msg.now q)
-      left_refusal = ap refusal_in (is_left c) ∙ page_refusal x.duration x.count n y fits (todo s call.msg.now q) x.on
+      left_refusal = ap refusal_in (is_left c) ∙ page_refusal n y (todo s call.msg.now q) x
 
       pub walk_shown : Countable x n
       walk_shown = record { few = omega (arith, adv.few, call.small); before = omega (arith, walk_few) }
@@ -233,7 +229,7 @@ module _ {call : Call} {rows₀ : List Row} {shown₀ : List Shown} {out₀ : Li
       -- it is put
       module _ {a : Shown} (is : a ≡ shown_by x n) where
         a_few : a.count ≤ length y
-        a_few = omega (arith, said_few x.duration x.count n y fits (todo s call.msg.now q) x.on, fits, ap (λ (w : Shown). w.count) is)
+        a_few = omega (arith, counts_same x n, fits, ap (λ (w : Shown). w.count) is)
 
         put_answers : showns_of (set shown i a) (i + 1) ++ answers_in (n + a.count) (todo s call.msg.now q) ≡ answers_in 0 all
         put_answers =

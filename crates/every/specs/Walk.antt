@@ -1,6 +1,5 @@
 -- The walk over all answers as the code makes it: answers and records stand first in two slices.
 use Rattle.std.specs.Prelude.{ℕ, ◌*◌, ◌≤◌, ◌<◌, ◌≡◌, List, length, take, Result, MatchResult, IfOk}
-use Rattle.base.specs.Pick.{pick}
 use Rattle.refusal.specs.declared.Refusal.{Refusal}
 use Rattle.sign.specs.declared.SignFile.{SignFile}
 use Rattle.layout.specs.declared.Span.{Span}
@@ -11,7 +10,8 @@ use Rattle.rows.specs.Rows.{RowRoom, spans_of}
 use Rattle.meter.specs.declared.call.Call.{Call}
 use Rattle.meter.specs.Opened.{AcceptedTable}
 use Rattle.pages.specs.declared.PageShown.{PageShown}
-use Rattle.pages.specs.Pages.{board_in, board_of}
+use Rattle.pages.specs.declared.PageShown.TheVariants.{On, Off}
+use Rattle.pages.specs.Pages.{board_in, board_of, shown_count}
 use Rattle.every.specs.declared.Shown.{Shown}
 use Rattle.every.specs.declared.Listed.{Listed}
 use Rattle.every.specs.declared.Walked.{Walked}
@@ -21,12 +21,13 @@ use Rattle.every.specs.All.{shown, Gathered, gather, none_but, gathered, counts_
 
 -- it can be told in 16 bits, after n records
 pub record Countable (x : PageShown) (n : ℕ) : Type 0 where
-  pub few : x.count < 65536
+  pub few : shown_count x < 65536
   pub before : n < 65536
 
 -- the answer, after n records
 abbrev pub shown_by : PageShown → ℕ → Shown
-shown_by x n = pick x.on (shown 1 x.duration n x.count) (shown 2 x.duration n 0)
+shown_by (On d c k) n = shown 1 d n c
+shown_by (Off d) n = shown 2 d n 0
 
 -- so it was told
 pub record ShownAs (x : PageShown) (n : ℕ) (r : Shown) : Type 0 where

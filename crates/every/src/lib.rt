@@ -8,13 +8,13 @@ use layout::Span;
 use meter::Call;
 use pages::{PageShown, Pages};
 use refusal::Refusal;
-use rows::{BLANK_ROW, ROOM, Row, SHORT_ROOM};
+use rows::{ROOM, Row, SHORT_ROOM};
 use sign::SignFile;
 
 // An answer of a listing, as C has it, so that its kind is a number: 1 on, 2 off. Its duration in tenths of a second; the number of its first
 // record, and how many it has.
 #[repr(C)]
-#[derive(Clone, Copy)]
+#[derive(Clone, Copy, Default)]
 pub struct Shown {
     pub kind: u16,
     pub duration: u16,
@@ -40,38 +40,35 @@ pub struct Walked {
 // No message has more answers.
 pub const ANSWERS: usize = 1026;
 
-// What a slice is filled with until its answers are written.
-pub const BLANK_SHOWN: Shown = Shown {
-    kind: 0,
-    duration: 0,
-    first: 0,
-    count: 0,
-};
-
-// An answer of a page, after n records.
+// An answer of a page, after n records. The casts are proved to lose nothing; try_from would add an error that no call gives.
 fn shown_by(x: PageShown, n: usize) -> Shown
     requires { Countable x n }
     ensures { ShownAs x n result }
 {
     let first = n as u16;
-    if x.on {
-        return Shown {
+    match x {
+        PageShown::On {
+            duration,
+            count,
+            ..
+        } => Shown {
             kind: 1,
-            duration: x.duration,
+            duration,
             first,
-            count: x.count as u16,
-        };
-    }
-    Shown {
-        kind: 2,
-        duration: x.duration,
-        first,
-        count: 0,
+            count: count as u16,
+        },
+        PageShown::Off(duration) => Shown {
+            kind: 2,
+            duration,
+            first,
+            count: 0,
+        },
     }
 }
 
 // Answer after answer, up to the end or the first refusal: each has the records behind those before.
-// The pages tell the end and not the slice, so that no iterator of the slice counts the answers.
+// The pages tell the end and not the slice, so that no iterator of the slice counts the answers. Nor `?` with `while let`: the counts so far
+// are told with a refusal too.
 fn walk(call: &Call, rows: &mut [Row], shown: &mut [Shown], out: &mut [Span]) -> Walked
     requires { WalkAsked call.now rows.old shown.old out.old }
     ensures { Walks call.now shown.new out.new result }
@@ -105,14 +102,14 @@ fn walk(call: &Call, rows: &mut [Row], shown: &mut [Shown], out: &mut [Span]) ->
     }
 }
 
-// The same, with rows for as many spans as the message can have: one for each of its bytes.
+// The same, with rows for as many spans as the message can have: one for each of its bytes. fits: the bytes of the array have to fit usize.
 fn paged<const N: usize>(call: &Call, shown: &mut [Shown], out: &mut [Span]) -> Walked
     requires rowed { length call.now.msg.now ≤ N }
     requires fits { N < 65536 }
     requires room { AllRoom call.now.msg.now shown.old out.old }
     ensures { Walks call.now shown.new out.new result }
 {
-    let mut rows = [BLANK_ROW; N];
+    let mut rows = [Row::default(); N];
     walk(call, &mut rows, shown, out)
 }
 
@@ -148,7 +145,7 @@ pub fn gather(
         },
         Ok(table) => {
             let call = Call { file, table, msg };
-            if msg.len() <= 256 {
+            if msg.len() <= SHORT_ROOM {
                 return paged::<SHORT_ROOM>(&call, shown, out);
             }
             paged::<ROOM>(&call, shown, out)

@@ -79,7 +79,7 @@ pub enum Step {
 // A placed span. kind: 0 text, 1 hexadecimal character, 2 empty line. start and length in message bytes; code of kind 1, else 0; x and y
 // from 0; the rectangle's x and y from 1 as in [tr], its zero sizes extended. C reads it, so that kinds are numbers.
 #[repr(C)]
-#[derive(Clone, Copy)]
+#[derive(Clone, Copy, Default)]
 pub struct Span {
     pub kind: u16,
     pub start: u16,

@@ -7,16 +7,16 @@ ghost use Rattle.counts.specs.Placing.{placing};
 
 use counts::Placed;
 use layout::{Answer, Span};
-use rows::{BLANK_SPAN, ROOM, SHORT_ROOM};
+use rows::{ROOM, SHORT_ROOM};
 
-// The placing, in an array of N records.
+// The placing, in an array of N records. fits: its bytes have to fit usize.
 fn place_in<const N: usize>(file: &[u8], message: &[u8], answer: usize, recs: &mut [Span]) -> Placed
     requires enough { length message.now ≤ 2048 → length message.now ≤ N }
     requires fits { N < 65536 }
     ensures { (result ≡ placing file.now message.now answer recs.old)
         × (recs.new ≡ after file.now message.now answer recs.old) }
 {
-    let mut out = [BLANK_SPAN; N];
+    let mut out = [Span::default(); N];
     let p = answer::placed(file, message, answer, recs.len(), &mut out);
     let n = usize::from(p.spans);
     recs[..n].copy_from_slice(&out[..n]);
@@ -29,7 +29,7 @@ pub fn place(file: &[u8], message: &[u8], answer: usize, recs: &mut [Span]) -> P
     ensures { (result ≡ placing file.now message.now answer recs.old)
         × (recs.new ≡ after file.now message.now answer recs.old) }
 {
-    if message.len() <= 256 {
+    if message.len() <= SHORT_ROOM {
         return place_in::<SHORT_ROOM>(file, message, answer, recs);
     }
     place_in::<ROOM>(file, message, answer, recs)

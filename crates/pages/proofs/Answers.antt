@@ -25,6 +25,7 @@ use Rattle.meter.specs.declared.call.Call.{Call}
 use Rattle.pass.specs.Pass.{items_in}
 use Rattle.pages.specs.declared.PageDone.{PageDone}
 use Rattle.pages.specs.declared.Pages.{Pages}
+use Rattle.pages.specs.declared.PageShown.TheVariants.{On}
 use Rattle.pages.specs.Pages.{board_of, run, turned, page_told, PageInMessage, PageRendered, pages_at, state_after, first_of, todo, InMessage, weight, NextAsked, OnRead}
 use Rattle.pages.proofs.Laws.{whole_inside}
 
@@ -101,7 +102,7 @@ module _ {call : Call} {p : Pages} {rows : List Row} {out : List Span} (asked : 
 
     pub on_page : {d : PageDone} {x : PageState} → v ≡ Ok d → x ≡ state_after d.more q.off
         → OnRead call p rows out (pages_at d.reached.at d.reached.state q.on q.off x) rows' out'
-        (Ok (record { on = true; duration = q.on; count = d.reached.count; looked = d.reached.looked }))
+        (Ok (On q.on d.reached.count d.reached.looked))
     on_page {d} g k =
         let f : PageInMessage call out' p.at d =
         subst (λ (r : Result PageDone Refusal). IfOk r (PageInMessage call out' p.at)) g t.done in

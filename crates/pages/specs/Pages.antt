@@ -29,6 +29,7 @@ use Rattle.pass.specs.Pass.{Ending, refused, ended, items_in, entries_from, endi
 use Rattle.pages.specs.declared.PageDone.{PageDone}
 use Rattle.pages.specs.declared.Pages.{Pages}
 use Rattle.pages.specs.declared.PageShown.{PageShown}
+use Rattle.pages.specs.declared.PageShown.TheVariants.{On, Off}
 
 -- the sign of an accepted file, for a message
 abbrev pub board_in : List ℕ → List ℕ → Config → Board
@@ -138,7 +139,7 @@ state_after more b = pick more (new_state (ltb 0 b)) (done_after (ltb 0 b))
 
 -- an off page, and what it leaves
 abbrev pub off_shown : Pages → PageShown
-off_shown p = record { on = false; duration = p.times.off; count = 0; looked = 0 }
+off_shown p = Off p.times.off
 
 abbrev pub off_left : Pages → Pages
 off_left p = pages_at p.at p.render_state p.times.on p.times.off (next_state p.page_state)
@@ -159,7 +160,17 @@ todo s msg p = todo_by s msg p p.page_state
 
 -- layout's page of an answer; l holds its records
 abbrev pub shown_page : List Span → PageShown → Page
-shown_page l x = pick x.on (on x.duration (spans_of l x.count)) (off x.duration)
+shown_page l (On d n k) = on d (spans_of l n)
+shown_page l (Off d) = off d
+
+-- how many records an answer has, and how many characters were looked up for them
+abbrev pub shown_count : PageShown → ℕ
+shown_count (On d n k) = n
+shown_count (Off d) = 0
+
+abbrev pub shown_looked : PageShown → ℕ
+shown_looked (On d n k) = k
+shown_looked (Off d) = 0
 
 -- the answers to come as the next one tells them, which leaves p
 abbrev pub on_told : Board → List ℕ → List Span → Pages → Result PageShown Refusal → List Page
@@ -191,9 +202,9 @@ IfShown P r = IfOk r (λ o. IfSome o P)
 pub record Advances (call : Call) (out : List Span) (at w : ℕ) (p : Pages) (x : PageShown) : Type 0 where
   pub stands : InMessage call p
   pub less : 2 * at + weight p.page_state + 1 ≤ 2 * p.at + w
-  pub few : x.count ≤ length call.msg.now
-  pub looked : x.looked ≡ looked_for call.file.now call.msg.now out x.count
-  pub short : x.looked ≤ length call.msg.now
+  pub few : shown_count x ≤ length call.msg.now
+  pub looked : shown_looked x ≡ looked_for call.file.now call.msg.now out (shown_count x)
+  pub short : shown_looked x ≤ length call.msg.now
 
 -- an answer can be read
 pub record NextAsked (call : Call) (p : Pages) (rows : List Row) (out : List Span) : Type 0 where

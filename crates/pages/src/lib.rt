@@ -1,4 +1,5 @@
-// The pages of a message, one answer after the other, as the Rust's iterator `Pages` gives them.
+// The pages of a message, one answer after the other, as the Rust's iterator `Pages` gives them. rows and out stand beside call: they are lent, and
+// change, and each answer has another part of out, so that a struct of both would be made anew for each.
 #![tactic(auto)]
 
 ghost use Rattle.std.specs.Prelude.{◌≡◌};
@@ -33,13 +34,15 @@ pub struct Pages {
     pub page_state: PageState,
 }
 
-// An answer: on or off, its duration, the count of its records and that of the characters looked up, which are 0 if it is off.
+// An answer: an on page with its duration, the count of its records and that of the characters looked up; or an off page with its duration.
 #[derive(Clone, Copy)]
-pub struct PageShown {
-    pub on: bool,
-    pub duration: u16,
-    pub count: usize,
-    pub looked: usize,
+pub enum PageShown {
+    On {
+        duration: u16,
+        count: usize,
+        looked: usize,
+    },
+    Off(u16),
 }
 
 // The pass behind what was reached of its page, read and placed as records behind those of the page so far: how it ends, with the page's
@@ -164,8 +167,7 @@ impl Pages {
             },
             page_state: state_after(d.more, s.off),
         };
-        Ok(PageShown {
-            on: true,
+        Ok(PageShown::On {
             duration: s.on,
             count: p.count,
             looked: p.looked,
@@ -178,12 +180,7 @@ impl Pages {
         ensures shown { result ≡ off_shown self.old }
     {
         self.page_state = self.page_state.next_state();
-        PageShown {
-            on: false,
-            duration: self.times.off,
-            count: 0,
-            looked: 0,
-        }
+        PageShown::Off(self.times.off)
     }
 
     // The next answer, if there is one; the records of an on page stand first in the slice.

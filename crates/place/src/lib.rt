@@ -47,12 +47,12 @@ fn refused(r: &Row, number: u8, detail: u16) -> Refusal
 fn check_justification(rows: &[Row]) -> Result<(), Refusal>
     ensures { result_err result ≡ back_rows 0 0 0 rows.now }
 {
-    let mut before = &rows::BLANK_ROW;
+    let mut before = Row::default();
     for e in rows {
-        if goes_back(before, e) {
+        if goes_back(&before, e) {
             return Err(refused(e, 9, 0));
         }
-        before = e;
+        before = *e;
     }
     Ok(())
 }

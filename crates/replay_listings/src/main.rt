@@ -98,7 +98,7 @@ fn main(rt: HostRuntime) {
         file: None,
         check: None,
         msg: ArrayVec::new(),
-        out: [rows::BLANK_SPAN; rows::ROOM],
+        out: [Span::default(); rows::ROOM],
         score: Score::default(),
         ends: 0,
         refusals: [0; 16],

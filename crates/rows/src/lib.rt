@@ -8,10 +8,11 @@ ghost use Rattle.rows.specs.Rows.{link_at, mark_at, LinkPut, MarkPut};
 
 use layout::{Entry, Fault, Span};
 
-// An entry of a pass with its measures. kind to code: as in its record. just_page to span: of the state it was read in.
-// spacing: its [sc] value where fixed, else its font's: one there is in any case. lead: the line spacing of the [nl] before it.
-// height, font_spacing: its font's height and line spacing. fault: refusal 10, 11 or 12.
-#[derive(Clone, Copy)]
+// An entry of a pass with its measures. kind to code: as in its record; kind is a number on its way to C, and an enum would be turned into it
+// again. just_page to span: of the state it was read in; justifications are its numbers, as refusal 9 orders them. spacing: its [sc] value where
+// fixed, else its font's: one there is in any case. lead: the line spacing of the [nl] before it. height, font_spacing: its font's height and line
+// spacing. fault: refusal 10, 11 or 12.
+#[derive(Clone, Copy, Default)]
 pub struct Row {
     pub kind: u16,
     pub start: u16,
@@ -66,49 +67,11 @@ pub fn row_by(e: Entry, g: Gauge) -> Row
     }
 }
 
-// As many rows, and as many records, as a message can have: one for each byte. The same of a short message.
+// As many rows, and as many records, as a message can have: one for each byte.
 pub const ROOM: usize = 2048;
 
+// The same of a short message: of 256 bytes at most, so that less is cleared for it.
 pub const SHORT_ROOM: usize = 256;
-
-// What a slice is filled with until its rows are written.
-pub const BLANK_ROW: Row = Row {
-    kind: 0,
-    start: 0,
-    len: 0,
-    code: 0,
-    just_page: 0,
-    just_line: 0,
-    font: 0,
-    line: 0,
-    span: 0,
-    fixed: false,
-    spacing: 0,
-    lead: None,
-    height: 0,
-    font_spacing: 0,
-    fault: None,
-    width: 0,
-};
-
-// The same of records.
-pub const BLANK_SPAN: Span = Span {
-    kind: 0,
-    start: 0,
-    length: 0,
-    code: 0,
-    x: 0,
-    y: 0,
-    width: 0,
-    height: 0,
-    font: 0,
-    line: 0,
-    span: 0,
-    rect_x: 0,
-    rect_y: 0,
-    rect_width: 0,
-    rect_height: 0,
-};
 
 // Until a record is written its fields are free. Its kind holds the link of its row: how many rows there are from the next one of its line on.
 pub fn link_at(out: &[Span], i: usize) -> u16

@@ -3,7 +3,7 @@
 // A write that fails is passed over.
 #![tactic(auto)]
 
-use layout::Answer;
+use layout::{Answer, Span};
 use refusal::Refusal;
 
 // How many bytes of the message are shown.
@@ -70,7 +70,7 @@ fn main(rt: HostRuntime) {
     let file = signbin::load(&rt, &mut sign);
     let mut message = [0; 2049];
     let msg = signbin::read_full(&mut rt.stdin(), &mut message);
-    let mut out = [rows::BLANK_SPAN; rows::ROOM];
+    let mut out = [Span::default(); rows::ROOM];
     let a = answer::compute(file, msg, 1026, 1400, &mut out);
     print_answer(&rt, msg, a);
 }

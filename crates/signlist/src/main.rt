@@ -4,10 +4,10 @@
 // A write that fails is passed over.
 #![tactic(auto)]
 
-use every::{ANSWERS, BLANK_SHOWN, Shown};
+use every::{ANSWERS, Shown};
 use layout::Span;
 use refusal::Refusal;
-use rows::{BLANK_SPAN, ROOM};
+use rows::ROOM;
 
 fn print_span(rt: &impl Print, s: &Span) {
     let _ = println!(rt;
@@ -31,8 +31,8 @@ fn print_answer(rt: &impl Print, s: &Shown, all: &[Span]) {
 
 // Prints answer after answer, from one walk over the pages, and what comes after them: the end with their count, or a refusal.
 fn print_all(rt: &impl Print, file: &[u8], msg: &[u8]) {
-    let mut answers = [BLANK_SHOWN; ANSWERS];
-    let mut records = [BLANK_SPAN; 2 * ROOM];
+    let mut answers = [Shown::default(); ANSWERS];
+    let mut records = [Span::default(); 2 * ROOM];
     let walked = every::gather(file, msg, ANSWERS, ROOM, &mut answers, &mut records);
     for s in answers.iter().take(walked.answers) {
         print_answer(rt, s, &records);

@@ -4,18 +4,17 @@
 ghost use Rattle.std.specs.Prelude.{◌≡◌, ◌*◌, ◌≤◌, ◌<◌, length};
 ghost use Rattle.every.specs.All.{listing_all, answers_after, records_after};
 
-use every::{ANSWERS, BLANK_SHOWN, Listed, Shown};
+use every::{ANSWERS, Listed, Shown};
 use layout::Span;
 use refusal::Refusal;
-use rows::BLANK_SPAN;
+use rows::{ROOM, SHORT_ROOM};
 
-// The records of a message twice: those of a page stand behind those before, and it is lent as many as the message has bytes. A short one has
-// at most 256.
-const SHORT_ROOM: usize = 512;
+// The records of a message twice: those of a page stand behind those before, and it is lent as many as the message has bytes.
+const SHORT_RECORDS: usize = 2 * SHORT_ROOM;
 
-const ROOM: usize = 4096;
+const RECORDS: usize = 2 * ROOM;
 
-// The whole listing, in arrays for all that it writes, N records. A refusal writes nothing.
+// The whole listing, in arrays for all that it writes, N records. A refusal writes nothing. fits: the records' bytes have to fit usize.
 fn list_all_in<const N: usize>(
     file: &[u8],
     message: &[u8],
@@ -28,8 +27,8 @@ fn list_all_in<const N: usize>(
         × (answers.new ≡ answers_after file.now message.now answers.old recs.old)
         × (recs.new ≡ records_after file.now message.now answers.old recs.old) }
 {
-    let mut shown = [BLANK_SHOWN; ANSWERS];
-    let mut out = [BLANK_SPAN; N];
+    let mut shown = [Shown::default(); ANSWERS];
+    let mut out = [Span::default(); N];
     let listed = every::counted(
         file,
         message,
@@ -57,8 +56,8 @@ pub fn list_all(
         × (answers.new ≡ answers_after file.now message.now answers.old recs.old)
         × (recs.new ≡ records_after file.now message.now answers.old recs.old) }
 {
-    if message.len() <= 256 {
-        return list_all_in::<SHORT_ROOM>(file, message, answers, recs);
+    if message.len() <= SHORT_ROOM {
+        return list_all_in::<SHORT_RECORDS>(file, message, answers, recs);
     }
-    list_all_in::<ROOM>(file, message, answers, recs)
+    list_all_in::<RECORDS>(file, message, answers, recs)
 }

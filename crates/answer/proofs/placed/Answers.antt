@@ -20,8 +20,8 @@ invariant_of-call-clause-opened c = call_accepted c.args.file.now c.args.msg.now
 pub invariant_of-call-clause-small : goal.invariant_of-call-clause-small
 invariant_of-call-clause-small c = call_small c.args.file.now c.args.msg.now c.in-Ok.ensures
 
-pub returns-then-msg-le256 : goal.returns-then-msg-le256
-returns-then-msg-le256 c = placed_as (call_listed c.args.file.now c.args.msg.now c.in-Ok.ensures c.args.number c.args.room c.args.out.now refl refl refl c.if-room-lt1400.false c.requires c.paged.ensures)
+pub returns-then-msg-le-SHORT_ROOM : goal.returns-then-msg-le-SHORT_ROOM
+returns-then-msg-le-SHORT_ROOM c = placed_as (call_listed c.args.file.now c.args.msg.now c.in-Ok.ensures c.args.number c.args.room c.args.out.now refl refl refl c.if-room-lt1400.false c.requires c.paged.ensures)
 
 pub invariant_of-call-2-clause-opened : goal.invariant_of-call-2-clause-opened
 invariant_of-call-2-clause-opened c = call_accepted c.args.file.now c.args.msg.now c.in-Ok.ensures
