@@ -71,7 +71,7 @@ impl LineList {
 }
 
 // The lines of the rows with a page justification.
-fn line_list(rows: &[Row], just: u8) -> LineList
+fn line_list(rows: &[Row], just: u16) -> LineList
     ensures { LinesOf rows.now just result }
 {
     let mut list = LineList {
@@ -116,14 +116,14 @@ pub struct Heights {
 // above the foot of a line that is not there), and their first font fault. just is a number, as in `Row`: an enum would be its number again.
 #[derive(Drop)]
 pub struct PageLines {
-    pub just: u8,
+    pub just: u16,
     feet: ArrayVec<u32, 256>,
     total: u32,
     fault: Option<Fault>,
 }
 
 impl PageLines {
-    pub fn new(char_height: u8, rows: &[Row], just: u8) -> PageLines
+    pub fn new(char_height: u8, rows: &[Row], just: u16) -> PageLines
         ensures { PageHeights char_height rows.now just result }
     {
         let list = line_list(rows, just);

@@ -67,7 +67,7 @@ fn trunc(n: u8, x: u16) -> u16
 
 // Where a span with a before it and b from there on stands in a rectangle: at its start, in the middle, or at its end. The six numbers are
 // of one axis, across or down, and no other function has them together. The casts are proved; try_from would add an error that no call gives.
-fn stand(just: u8, grid: u8, from: u16, size: u16, a: u64, b: u64) -> u16
+fn stand(just: u16, grid: u8, from: u16, size: u16, a: u64, b: u64) -> u16
     requires { (a + b ≤ size) × (from + size ≤ 4096) }
     ensures { (result ≡ stands_at just grid from size a b) × (result ≤ 4096) }
 {
@@ -101,7 +101,7 @@ impl<'a> Pass<'a> {
             y,
             width: r.width as u16,
             height: r.height,
-            font: u16::from(r.font),
+            font: r.font,
             line: u16::from(r.line),
             span: u16::from(r.span),
             rect_x: self.rect.left + 1,
@@ -241,7 +241,7 @@ impl<'a> Pass<'a> {
     }
 
     // The lines of a page justification: those there, or made anew if these are of another.
-    fn lines_for(&self, page: &mut PageLines, want: u8)
+    fn lines_for(&self, page: &mut PageLines, want: u16)
         requires { LinesMade self.now page.old }
         ensures { PageHeights self.now.config.char_height self.now.rows.now want page.new }
     {
