@@ -1,5 +1,6 @@
 -- What stands above the foot of each line.
-use Rattle.std.specs.Prelude.{ℕ, zero, suc, ◌+◌, ◌*◌, ◌≤◌, ◌<◌, ◌≡◌, List, [], ◌∷◌, ◌++◌, ◌-◌, ltb, Option, Some, None, length, get_or, drop, map, Bool, true, false, eqb}
+use Rattle.std.specs.Prelude.{ℕ, zero, suc, ◌+◌, ◌*◌, ◌-◌, ◌≤◌, ◌<◌, ◌≡◌, List, [], ◌∷◌, ◌++◌, length, get_or, drop, map}
+use Rattle.std.specs.Prelude.{Option, Some, None, Bool, true, false, eqb, ltb}
 use Rattle.std.proofs.Common.{refl, ◌∙◌, ap, sym, arith}
 use Rattle.std.proofs.lemmas.List.{length-map, length-append, get_or-map, get_or_append_left, get_or-append_right, get_or_past, drop_more, drop_all}
 use Rattle.arrayvec.specs.ArrayVec.{ArrayVec}

@@ -74,7 +74,7 @@ module _ {p : Pass} where
               record {
                 chained =
                     record {
-                      asked = record { few = h.chained.asked.few; room = h.chained.asked.room ∙ sym u.room };
+                      asked = record { few = h.chained.asked.few; room = omega (arith, h.chained.asked.room, u.room) };
                       linked =
                           record {
                             size = h.chained.linked.size;

@@ -222,7 +222,7 @@ below_m m rs h k = omega (arith, length-take-le m rs h)
 -- the first i of m rows are placed, the others placed across
 pub record Placing (p : Pass) (m : ℕ) (out : List Span) (page : PageLines) (i : ℕ) : Type 0 where
   pub few : m ≤ length p.rows.now
-  pub room : length p.rows.now ≡ length out
+  pub room : length p.rows.now ≤ length out
   pub lines : LinesMade p page
   pub faults : first_fault (span_fault_at p.config p.rect p.rows.now) (drop i (take m p.rows.now))
       ≡ first_fault (span_fault_at p.config p.rect p.rows.now) (take m p.rows.now)
@@ -290,7 +290,7 @@ module _ {p : Pass} {m : ℕ} {out : List Span} {page : PageLines} {i : ℕ} (z 
             let done : List Span = map (record_at p.config p.rect p.rows.now) (take i p.rows.now) in
             record {
               few = z.few;
-              room = z.room ∙ sym (length-set out i s);
+              room = omega (arith, z.room, length-set out i s);
               lines = own_lines h;
               faults = sym (none_first fault later fit.0) ∙ here;
               records =
@@ -365,7 +365,7 @@ module _ {p : Pass} {out : List Span} {a : Across} (x : PlacedAcross p out a) wh
         record {
           fault = sym (at_drop_all (first_fault (faults_at p)) p.rows.now a.count (omega arith)) ∙ after;
           written = λ _.
-              sym (take_all a.count out' (omega (arith, y.room))) ∙ y.written refl
+              ap (λ (m : ℕ). take m out') (sym n) ∙ y.written refl
               ∙ ap (map (record_at p.config p.rect p.rows.now)) (take_all a.count p.rows.now (omega arith));
         }
 
@@ -401,7 +401,8 @@ pass_on {p} e {part} d {n} here {out} room long =
     let m : length part ≡ n = long ∙ length-take-le n out room in
     record {
       fault = d.fault ∙ sym (none_first (back_rows 0 0 0 p.rows.now) (first_fault (span_fault_at p.config p.rect p.rows.now) p.rows.now) (sym e));
-      written = λ g. take-put_mid 0 n out part (length p.rows.now) (omega arith) (omega arith) ∙ d.written g;
+      written = λ g. take-put_mid 0 n out part (length p.rows.now) (omega arith) (omega arith) ∙ sym (take_all (length p.rows.now) part (omega arith))
+          ∙ d.written g;
       behind = drop-put_mid 0 n out part (length p.rows.now) (omega arith) (omega arith) m;
     }
 

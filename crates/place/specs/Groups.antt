@@ -30,7 +30,7 @@ pub record Marked (p : Pass) (out : List Span) (j : ℕ) : Type 0 where
 -- row i has a record, and a and b stand within the rectangle
 pub record MarkAsked (p : Pass) (out : List Span) (i a b : ℕ) : Type 0 where
   pub low : i < length p.rows.now
-  pub room : length p.rows.now ≡ length out
+  pub room : length p.rows.now ≤ length out
   pub wide : a + b ≤ p.rect.width
 
 -- the rows are chained, and what is marked is placed across
@@ -67,7 +67,7 @@ pub record GroupPlaced (p : Pass) (out : List Span) (i : ℕ) (out' : List Span)
 -- the first rows are placed across, and the next is refused
 pub record PlacedAcross (p : Pass) (out : List Span) (a : Across) : Type 0 where
   pub few : a.count ≤ length p.rows.now
-  pub room : length p.rows.now ≡ length out
+  pub room : length p.rows.now ≤ length out
   pub marked : (j : ℕ) → j < a.count → Marked p out j
   pub all : a.end ≡ Ok tt → a.count ≡ length p.rows.now
   pub stop : (f : Refusal) → a.end ≡ Err f → (a.count < length p.rows.now) × (a.end ≡ end_at p a.count)
@@ -75,11 +75,11 @@ pub record PlacedAcross (p : Pass) (out : List Span) (a : Across) : Type 0 where
 -- the first m rows are placed across
 pub record DownAsked (p : Pass) (out : List Span) (m : ℕ) : Type 0 where
   pub few : m ≤ length p.rows.now
-  pub room : length p.rows.now ≡ length out
+  pub room : length p.rows.now ≤ length out
   pub marked : (j : ℕ) → j < m → Marked p out j
 
 -- they were placed: a refusal, or their records
 pub record PlacedDown (p : Pass) (m : ℕ) (out : List Span) (r : Result (Unit {0}) Refusal) : Type 0 where
-  pub room : length p.rows.now ≡ length out
+  pub room : length p.rows.now ≤ length out
   pub fault : result_err r ≡ first_fault (span_fault_at p.config p.rect p.rows.now) (take m p.rows.now)
   pub written : r ≡ Ok tt → take m out ≡ map (record_at p.config p.rect p.rows.now) (take m p.rows.now)

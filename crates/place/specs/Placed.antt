@@ -152,7 +152,7 @@ LinesMade p page = PageHeights p.config.char_height p.rows.now page.just page
 -- they were placed row by row: a refusal, or all records
 pub record RowByRow (p : Pass) (out : List Span) (r : Result (Unit {0}) Refusal) : Type 0 where
   pub fault : result_err r ≡ first_fault (span_fault_at p.config p.rect p.rows.now) p.rows.now
-  pub written : r ≡ Ok tt → out ≡ rows_records p.config p.rect p.rows.now
+  pub written : r ≡ Ok tt → take (length p.rows.now) out ≡ rows_records p.config p.rect p.rows.now
 
 -- the pass was placed: 9 before them; out' holds the rows' records, and behind these what out had
 pub record PassPlaced (c : Config) (q : Rect) (rows : List Row) (out out' : List Span) (r : Result (Unit {0}) Refusal) : Type 0 where

@@ -23,7 +23,7 @@ rows_from rows k = rows_in rows (row_at rows (length rows - k)).line k
 -- the rows of a pass, each with its record
 pub record RowsAsked (rows : List Row) (out : List Span) : Type 0 where
   pub few : length rows ≤ 2048
-  pub room : length rows ≡ length out
+  pub room : length rows ≤ length out
 
 -- the last k rows are chained: heads tells each line's first, a row's record its line's next
 pub record Linked (rows : List Row) (out : List Span) (heads : List ℕ) (k : ℕ) : Type 0 where
