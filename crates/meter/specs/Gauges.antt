@@ -4,6 +4,7 @@ use Rattle.base.specs.Pick.{pick}
 use Rattle.utf8.specs.Utf8.{codes}
 use Rattle.sign.specs.Sign.{Character, Font, sign_file}
 use Rattle.sign.specs.declared.FontEntry.{FontEntry}
+use Rattle.sign.specs.declared.SignFile.{SignFile}
 use Rattle.font.specs.Character.{characters_at}
 use Rattle.font.specs.Table.{font_numbered, entry_numbered}
 use Rattle.font.specs.Measure.{Measure, measure_of}
@@ -22,20 +23,30 @@ use Rattle.meter.specs.declared.call.Call.{Call}
 unfoldable pub meter_in : List ℕ → List ℕ → Meter
 meter_in file msg = meter_of msg (capitals_in (sign_file file)) (fonts_in (sign_file file))
 
--- the font with a number, as the call's table has it
-abbrev pub numbered_in : Call → ℕ → Option FontEntry
-numbered_in call n = entry_numbered n (take call.table.count call.table.fonts)
+-- the font with a number, as a table has it
+abbrev pub numbered_at : SignFile → ℕ → Option FontEntry
+numbered_at t n = entry_numbered n (take t.count t.fonts)
 
--- the font w is the one with a number
-pub record FontIs (call : Call) (n : ℕ) (w : FontWidths 256) : Type 0 where
-  pub entry : numbered_in call n ≡ Some w.font.entry
-  pub file : w.font.file.now ≡ call.file.now
-  pub capitals : w.font.capitals ≡ call.table.config.capitals
+-- the font w of a file is the one with a number
+pub record FontAt (bytes : List ℕ) (t : SignFile) (n : ℕ) (w : FontWidths 256) : Type 0 where
+  pub entry : numbered_at t n ≡ Some w.font.entry
+  pub file : w.font.file.now ≡ bytes
+  pub capitals : w.font.capitals ≡ t.config.capitals
 
 -- so is a font that may be none
+abbrev pub WidthsAt : List ℕ → SignFile → ℕ → Option (FontWidths 256) → Type 0
+WidthsAt bytes t n None = numbered_at t n ≡ None
+WidthsAt bytes t n (Some w) = FontAt bytes t n w
+
+-- the same of a call
+abbrev pub numbered_in : Call → ℕ → Option FontEntry
+numbered_in call n = numbered_at call.table n
+
+abbrev pub FontIs : Call → ℕ → FontWidths 256 → Type 0
+FontIs call n w = FontAt call.file.now call.table n w
+
 abbrev pub WidthsOf : Call → ℕ → Option (FontWidths 256) → Type 0
-WidthsOf call n None = numbered_in call n ≡ None
-WidthsOf call n (Some w) = FontIs call n w
+WidthsOf call n o = WidthsAt call.file.now call.table n o
 
 -- code points that fit in 16 bits, as a refusal's detail has
 abbrev pub CodesFit : List ℕ → Type 0

@@ -4,7 +4,7 @@
 ghost use Rattle.std.specs.Prelude.{◌≡◌, ◌∷◌, [], false, None};
 ghost use Rattle.font.specs.Character.{letters};
 ghost use Rattle.layout.specs.Fonts.{chars_of, missing};
-ghost use Rattle.meter.specs.Gauges.{WidthsOf, part_codes, EntryIn, CodeFits, WidthFound, version_fault, gauge_for, GaugedIn, GaugedBy, RowTaken};
+ghost use Rattle.meter.specs.Gauges.{WidthsAt, WidthsOf, part_codes, EntryIn, CodeFits, WidthFound, version_fault, gauge_for, GaugedIn, GaugedBy, RowTaken};
 
 mod call;
 
@@ -12,6 +12,7 @@ pub use call::Call;
 use font::{FileFont, FontWidths, Looked, Missing};
 use layout::{Entry, Fault};
 use rows::{Gauge, Row};
+use sign::SignFile;
 
 // The width of a text of the message. That an entry lies in it is asked here and below: an entry knows no message, so that it can't hold this.
 fn part_width(call: &Call, font: &FontWidths<256>, e: Entry, spacing: u16) -> Looked
@@ -104,14 +105,14 @@ fn no_font(e: Entry) -> Gauge
 }
 
 // The font with a number and its widths, if the sign file has it.
-pub fn widths_of<'a>(call: &Call<'a>, number: u8) -> Option<FontWidths<'a, 256>>
-    ensures { WidthsOf call.now number result }
+pub fn widths_of<'a>(file: &'a [u8], table: SignFile, number: u8) -> Option<FontWidths<'a, 256>>
+    ensures { WidthsAt file.now table number result }
 {
-    let entry = font::font_numbered(call.table, number)?;
+    let entry = font::font_numbered(table, number)?;
     Some(FontWidths::new(FileFont {
-        file: call.file,
+        file,
         entry,
-        capitals: call.table.config.capitals,
+        capitals: table.config.capitals,
     }))
 }
 
