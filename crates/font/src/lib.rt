@@ -61,8 +61,8 @@ pub struct Looked {
 }
 
 // The font with a number.
-pub fn font_numbered(table: SignFile, number: u8) -> Option<FontEntry>
-    ensures { result ≡ entry_numbered number (take table.count table.fonts) }
+pub fn font_numbered(table: &SignFile, number: u8) -> Option<FontEntry>
+    ensures { result ≡ entry_numbered number (take table.now.count table.now.fonts) }
 {
     table
         .fonts

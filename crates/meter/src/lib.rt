@@ -107,7 +107,7 @@ fn no_font(e: Entry) -> Gauge
 pub fn widths_of<'a>(call: &Call<'a>, number: u8) -> Option<FontWidths<'a, 256>>
     ensures { WidthsOf call.now number result }
 {
-    let entry = font::font_numbered(call.table, number)?;
+    let entry = font::font_numbered(&call.table, number)?;
     Some(FontWidths::new(FileFont {
         file: call.file,
         entry,
