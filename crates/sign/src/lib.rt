@@ -110,20 +110,6 @@ fn char_at(file: &[u8], at: usize, height: u8) -> Option<CharRecord>
     char_in(height, kind, &file[start..end], end)
 }
 
-// Where the records go on: past the one at an offset, if it is the option of that kind.
-fn past_option(file: &[u8], at: usize, option: u16) -> usize
-    ensures { PastOption file.now at option result }
-{
-    let Some(Record { kind, start, end }) = reader::record_at(file, at) else {
-        return at;
-    };
-    if kind == option && start == end {
-        end
-    } else {
-        at
-    }
-}
-
 // The records of a file from an offset on.
 #[derive(Clone, Copy)]
 struct Records<'a> {
@@ -207,18 +193,31 @@ impl Records<'_> {
         })
     }
 
+    // Those past the first, if it is the option of that kind.
+    fn past_option(self, option: u16) -> Self
+        ensures file { result.file.now ≡ self.entry.file.now }
+        ensures past { PastOption self.entry.file.now self.entry.at option result.at }
+    {
+        let Records { file, at } = self;
+        let Some(Record { kind, start, end }) = reader::record_at(file, at) else {
+            return self;
+        };
+        if kind == option && start == end {
+            return Records { file, at: end };
+        }
+        self
+    }
+
     // The options, in their order, and the fonts after them.
     #[tactic(auto, using(crate::proofs::Options::options_on))]
     fn read_options(self, c: Config) -> Result<SignFile, RefusedAt>
         ensures { result ≡ given_after self.entry.file.now self.entry.at c }
     {
-        let Records { file, at: from } = self;
-        let at = past_option(file, from, 4);
-        let end = past_option(file, at, 5);
-        let fonts = Records { file, at: end };
+        let past = self.past_option(4);
+        let fonts = past.past_option(5);
         fonts.read_fonts(Config {
-            capitals: from < at,
-            long_times: at < end,
+            capitals: self.at < past.at,
+            long_times: past.at < fonts.at,
             ..c
         })
     }
