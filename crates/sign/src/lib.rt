@@ -20,8 +20,8 @@ pub struct FontEntry {
     pub characters: usize,
 }
 
-// A sign file that is accepted: the first count fonts are its fonts. No heap, and no ArrayVec, which is not Copy: `Call` (meter) and
-// `font_numbered` (font) have this struct by value.
+// A sign file that is accepted: the first count fonts are its fonts. An array with its count, since there is no heap, and an ArrayVec is not Copy:
+// who copies a SignFile today could not any more.
 #[derive(Clone, Copy)]
 pub struct SignFile {
     pub config: Config,
@@ -77,7 +77,8 @@ fn font_in(kind: u16, body: &[u8], end: usize) -> Option<FontEntry>
     (kind == 2 && *number != 0 && *height != 0).then_some(entry)
 }
 
-// The font whose record is at an offset.
+// The font whose record is at an offset. A function of file and offset, as `record_at`: the loops below move the offset, and a `Records` for each step
+// would be made anew.
 #[tactic(auto, unfolding(crate::specs::Reading::font_at))]
 fn font_at(file: &[u8], at: usize) -> Option<FontEntry>
     ensures { result ≡ font_at file.now at }
@@ -110,7 +111,7 @@ fn char_at(file: &[u8], at: usize, height: u8) -> Option<CharRecord>
     char_in(height, kind, &file[start..end], end)
 }
 
-// The records of a file from an offset on.
+// The records of a file from an offset on, which is inside it: a `SignReader` may stand anywhere.
 #[derive(Clone, Copy)]
 struct Records<'a> {
     file: &'a [u8],
