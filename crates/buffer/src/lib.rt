@@ -11,10 +11,8 @@ pub fn put(buffer: &mut [u8], at: usize, text: &[u8]) -> usize
 {
     // By an index: copy_from_slice asks memmove of C here, and the library needs memcpy and memset alone (include/kambelohi.h).
     let n = text.len();
-    let mut i: usize = 0;
-    while i < n {
+    for i in 0..n {
         buffer[at + i] = text[i];
-        i += 1;
     }
     at + n
 }

@@ -61,8 +61,8 @@ pub struct Looked {
 }
 
 // The font with a number.
-pub fn font_numbered(table: SignFile, number: u8) -> Option<FontEntry>
-    ensures { result ≡ entry_numbered number (take table.count table.fonts) }
+pub fn font_numbered(table: &SignFile, number: u8) -> Option<FontEntry>
+    ensures { result ≡ entry_numbered number (take table.now.count table.now.fonts) }
 {
     table
         .fonts
@@ -260,6 +260,7 @@ impl<'a, const N: usize> FontWidths<'a, N> {
     }
 
     // The width of a text, and how many characters were looked up: of its first 65,000 bytes, where it has more.
+    #[tactic(auto, using(crate::proofs::Texts::first_is))]
     pub fn text_width(&self, text: &[u8], spacing: u16) -> Looked
         ensures { result ≡ measure_of (letters self.now.font) spacing (codes (take 65000 text.now)) }
     {

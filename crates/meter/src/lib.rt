@@ -105,8 +105,8 @@ fn no_font(e: Entry) -> Gauge
 }
 
 // The font with a number and its widths, if the sign file has it.
-pub fn widths_of<'a>(file: &'a [u8], table: SignFile, number: u8) -> Option<FontWidths<'a, 256>>
-    ensures { WidthsAt file.now table number result }
+pub fn widths_of<'a>(file: &'a [u8], table: &SignFile, number: u8) -> Option<FontWidths<'a, 256>>
+    ensures { WidthsAt file.now table.now number result }
 {
     let entry = font::font_numbered(table, number)?;
     Some(FontWidths::new(FileFont {

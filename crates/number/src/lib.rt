@@ -1,4 +1,5 @@
-// Number readers: Rust's unsigned `parse` and `from_str_radix`, on any part of a slice.
+// Number readers: Rust's unsigned `parse` and `from_str_radix`, on any part of a slice. That a number is at most max is a clause of each, by which
+// callers cast: a type for it would have the bound, which is the caller's, as a parameter.
 #![tactic(auto)]
 
 ghost use Rattle.std.specs.Prelude.{◌≡◌, ◌≤◌, ◌<◌, IfSome};

@@ -171,10 +171,3 @@ impl From<Value> for Numbers {
         }
     }
 }
-
-// The same as a function, whose promise is a clause.
-pub fn numbers_of(v: Value) -> Numbers
-    ensures { result ≡ numbers_of v }
-{
-    Numbers::from(v)
-}

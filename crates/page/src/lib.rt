@@ -41,7 +41,7 @@ fn mark_item(tags: u32, item: Result<Value, SyntaxError>) -> Result<Mark, Syntax
     mark_of(tags, item?)
 }
 
-// The times of a page, on and off.
+// The times of a page, on and off. layout's `Scan`, which the definitions share, has them as fields of its own.
 #[derive(Clone, Copy)]
 pub struct Times {
     pub on: u16,

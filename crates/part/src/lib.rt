@@ -28,6 +28,7 @@ fn position_of(s: &[u8], sep: u8) -> Option<usize>
 }
 
 // The same, or the length, where a slice up to it ends.
+#[tactic(auto, using(crate::proofs::Laws::found_is))]
 pub fn find(s: &[u8], sep: u8) -> usize
     ensures { result ≡ index_of sep s.now }
 {
@@ -58,6 +59,7 @@ pub fn rest_part(s: &[u8], sep: u8) -> &[u8]
 }
 
 // Whether there is such a byte.
+#[tactic(auto, using(crate::proofs::Laws::holds_is))]
 pub fn has(s: &[u8], sep: u8) -> bool
     ensures { result ≡ holds sep s.now }
 {

@@ -77,7 +77,7 @@ fn hold<'a>(call: &Call<'a>, number: u8, held: &mut Option<FontWidths<'a, 256>>)
     ensures { WidthsOf call.now number held.new }
 {
     if !matches!(held, Some(widths) if widths.font.entry.number == number) {
-        *held = meter::widths_of(call.file, call.table, number);
+        *held = meter::widths_of(call.file, &call.table, number);
     }
 }
 

@@ -1,5 +1,5 @@
 // The reader that document 01 names, "A reader of the sign file keeps the lent bytes and a position": a struct, with thin functions over
-// `records::record_at`, which decodes a record by slice and number. Sign and font read through the function `record_at`.
+// `records::record_at`, which decodes a record by slice and number, and whose promises are theirs. Sign and font read through the function `record_at`.
 #![tactic(auto)]
 
 ghost use Rattle.std.specs.Prelude.{◌≡◌, ◌≤◌, length, IfSome};

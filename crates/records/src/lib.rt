@@ -8,8 +8,8 @@ ghost use Rattle.records.specs.Config.{config_of, size_ok, just_ok, tags_ok, con
 // The tags that a sign may support: fo, hc, jl, jp, nl, np, pt, sc and tr, bits 3, 5, 6, 7, 10 to 13 and 27.
 const MASK: u32 = 134233320;
 
-// A record's kind, where its body starts, and where it ends. The kind is the file's number, and no enum: any number may stand
-// there, and each reader tests for its own.
+// A record's kind, where its body starts, and where it ends: places and no slice, since a bitmap's place and the next record's are told by them.
+// The kind is the file's number, and no enum: any number may stand there, and each reader tests for its own.
 #[derive(Clone, Copy)]
 pub struct Record {
     pub kind: u16,

@@ -20,8 +20,8 @@ pub struct FontEntry {
     pub characters: usize,
 }
 
-// A sign file that is accepted: the first count fonts are its fonts. No heap, and no ArrayVec, which is not Copy: `Call` (meter) and
-// `font_numbered` (font) have this struct by value.
+// A sign file that is accepted: the first count fonts are its fonts. An array with its count, since there is no heap, and an ArrayVec is not Copy:
+// who copies a SignFile today could not any more.
 #[derive(Clone, Copy)]
 pub struct SignFile {
     pub config: Config,
@@ -77,7 +77,8 @@ fn font_in(kind: u16, body: &[u8], end: usize) -> Option<FontEntry>
     (kind == 2 && *number != 0 && *height != 0).then_some(entry)
 }
 
-// The font whose record is at an offset.
+// The font whose record is at an offset. A function of file and offset, as `record_at`: the loops below move the offset, and a `Records` for each step
+// would be made anew.
 #[tactic(auto, unfolding(crate::specs::Reading::font_at))]
 fn font_at(file: &[u8], at: usize) -> Option<FontEntry>
     ensures { result ≡ font_at file.now at }
@@ -110,21 +111,7 @@ fn char_at(file: &[u8], at: usize, height: u8) -> Option<CharRecord>
     char_in(height, kind, &file[start..end], end)
 }
 
-// Where the records go on: past the one at an offset, if it is the option of that kind.
-fn past_option(file: &[u8], at: usize, option: u16) -> usize
-    ensures { PastOption file.now at option result }
-{
-    let Some(Record { kind, start, end }) = reader::record_at(file, at) else {
-        return at;
-    };
-    if kind == option && start == end {
-        end
-    } else {
-        at
-    }
-}
-
-// The records of a file from an offset on.
+// The records of a file from an offset on, which is inside it: a `SignReader` may stand anywhere.
 #[derive(Clone, Copy)]
 struct Records<'a> {
     file: &'a [u8],
@@ -207,18 +194,31 @@ impl Records<'_> {
         })
     }
 
+    // Those past the first, if it is the option of that kind.
+    fn past_option(self, option: u16) -> Self
+        ensures file { result.file.now ≡ self.entry.file.now }
+        ensures past { PastOption self.entry.file.now self.entry.at option result.at }
+    {
+        let Records { file, at } = self;
+        let Some(Record { kind, start, end }) = reader::record_at(file, at) else {
+            return self;
+        };
+        if kind == option && start == end {
+            return Records { file, at: end };
+        }
+        self
+    }
+
     // The options, in their order, and the fonts after them.
     #[tactic(auto, using(crate::proofs::Options::options_on))]
     fn read_options(self, c: Config) -> Result<SignFile, RefusedAt>
         ensures { result ≡ given_after self.entry.file.now self.entry.at c }
     {
-        let Records { file, at: from } = self;
-        let at = past_option(file, from, 4);
-        let end = past_option(file, at, 5);
-        let fonts = Records { file, at: end };
+        let past = self.past_option(4);
+        let fonts = past.past_option(5);
         fonts.read_fonts(Config {
-            capitals: from < at,
-            long_times: at < end,
+            capitals: self.at < past.at,
+            long_times: past.at < fonts.at,
             ..c
         })
     }

@@ -174,7 +174,7 @@ pub enum SyntaxError {
 }
 
 impl SyntaxError {
-    // The number of a refusal for it.
+    // The number of a refusal for it. A method: `u8::from` would not say of which number.
     pub fn number(self) -> u8
         ensures { result ≡ number_of self }
     {
