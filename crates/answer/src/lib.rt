@@ -51,7 +51,7 @@ fn answer_of(next: Result<Option<PageShown>, Refusal>, before: usize) -> Placed
     }
 }
 
-// Answer number n of a message: it goes through the answers before it and stops at the first refusal.
+// Answer number n of a message: it goes through the answers before it and stops at the first refusal. The cast is proved, as those above.
 fn numbered(call: &Call, number: usize, rows: &mut [Row], out: &mut [Span]) -> Placed
     requires { Ready call.now rows.old out.old }
     ensures { Numbered call.now number out.old out.new result }

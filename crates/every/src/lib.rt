@@ -125,7 +125,8 @@ fn opened(file: &[u8], msg: &[u8], answers: usize, records: usize) -> Result<Sig
 }
 
 // All answers before the first refusal, if there is one, for slices of so many answers and records: they stand first in the slices. For a
-// short message fewer rows are cleared. File and message, two rooms and two slices: the call's own parameters, as C has them.
+// short message fewer rows are cleared. File, message and the two rooms are what C's call tells, and the slices are arrays of its caller: no
+// struct has them together elsewhere. That these are long enough (AllRoom) is asked of each, since they are lent and change.
 pub fn gather(
     file: &[u8],
     msg: &[u8],
@@ -154,7 +155,7 @@ pub fn gather(
 }
 
 impl Walked {
-    // The counts of what was walked, or the refusal that ended it.
+    // The counts of what was walked, or the refusal that ended it. The casts are proved; try_from would add an error that no call gives.
     fn counts(self) -> Result<Listed, Refusal>
         requires { (self.answers < 65536) × (self.records < 65536) }
         ensures { result ≡ listed_by self }
@@ -169,7 +170,7 @@ impl Walked {
     }
 }
 
-// The call's answer, with the answers and records that it counts in the slices.
+// The call's answer, with the answers and records that it counts in the slices. Its parameters are those of `gather`.
 pub fn counted(
     file: &[u8],
     msg: &[u8],

@@ -65,7 +65,7 @@ pub extern "C" fn kambelohi_list_all(
     kambelohi::kambelohi_list_all(file, message, answers, recs)
 }
 
-// The refusal with these numbers as a sentence in the lent buffer.
+// The refusal with these numbers as a sentence in the lent buffer: C passes no struct.
 #[unsafe(no_mangle)]
 pub extern "C" fn kambelohi_sentence(
     number: u8,

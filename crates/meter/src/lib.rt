@@ -116,8 +116,8 @@ pub fn widths_of<'a>(file: &'a [u8], table: &SignFile, number: u8) -> Option<Fon
     }))
 }
 
-// The same of any span: font is its font. That it is, is asked here and below (WidthsOf): a font's widths know neither the call nor the span, and
-// the font is kept from span to span.
+// What the fonts say of any span, and how many characters were looked up: font is its font. That it is, is asked here and below (WidthsOf): a
+// font's widths know neither the call nor the span, and the font is kept from span to span.
 fn gauge_of(call: &Call, font: &Option<FontWidths<256>>, e: Entry) -> (Gauge, usize)
     requires entry_in { EntryIn call.now e }
     requires widths_of { WidthsOf call.now e.state.font font.now }

@@ -10,6 +10,7 @@ use std::rt::Files;
 use token::Slices;
 use value::{Place, Value};
 
+// No Display here: place and value are other crates', and the line is the format's.
 fn print_slice(rt: &impl Print, p: Place, v: Value) {
     let said = Numbers::from(v);
     let _ = print!(rt; "{} {} {}", p.start, p.len, said.code);

@@ -5,7 +5,8 @@
 ghost use Rattle.std.specs.Prelude.{◌≡◌};
 ghost use Rattle.refusal.specs.Refusals.{refusal as refusal_of};
 ghost use Rattle.pass.specs.Pass.{start_at};
-ghost use Rattle.pages.specs.Pages.{RenderAsked, PassRendered, page_done, PageRendered, state_after, off_shown, off_left, first_of, NextAsked, OnRead, NextRead};
+ghost use Rattle.pages.specs.Pages.{RenderAsked, PassRendered, page_done, PageRendered, state_after, off_shown, off_left, first_of};
+ghost use Rattle.pages.specs.Pages.{NextAsked, OnRead, NextRead};
 
 use layout::{RenderState, Span};
 use meter::Call;

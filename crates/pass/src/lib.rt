@@ -82,7 +82,8 @@ fn hold<'a>(call: &Call<'a>, number: u8, held: &mut Option<FontWidths<'a, 256>>)
 }
 
 // Stores a span's row behind the n before it, and answers how many characters its measure looked up. n stands beside the slice: the pass
-// answers it, and an iterator over the rows would add a None that no call gives.
+// answers it, and an iterator over the rows would add a None that no call gives. No ArrayVec: there are rows for 256 bytes or for 2,048, and
+// all that reads a page would be compiled for both.
 fn store<'a>(
     call: &Call<'a>,
     e: Entry,

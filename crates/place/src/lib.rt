@@ -88,6 +88,7 @@ struct Across {
 }
 
 impl<'a> Pass<'a> {
+    // The record of a row at its place. The cast is proved: a span that fits is no wider than its rectangle.
     fn record_of(&self, r: &Row, x: u16, y: u16) -> Span
         requires { r.now.width ≤ self.now.rect.width }
         ensures { result ≡ record_by self.now.rect r.now x y }

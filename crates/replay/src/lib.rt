@@ -65,7 +65,7 @@ pub fn is_line(line: &[u8], numbers: &[u64]) -> bool
 
 // Whether a line is so many numbers.
 fn is_numbers(line: &[u8], count: usize) -> bool {
-    words(line) == count && (0..count).all(|n| number_at(line, n).is_some())
+    words(line) == count && line.split(|b| *b == b' ').all(|word| plain(word).is_some())
 }
 
 // The value of a hexadecimal digit in lower case.

@@ -44,7 +44,7 @@ pub struct Stream {
 }
 
 impl Kind {
-    // The letter that a case line begins with.
+    // The letter that a case line begins with. No TryFrom: it takes a line, and one of no kind (`end`) is no error yet.
     #[tactic(auto, unfolding(crate::specs::Kinds::kind_of))]
     pub fn of(line: &[u8]) -> Option<Kind>
         ensures { result ≡ kind_of (word_of line.now 0) }
@@ -111,7 +111,7 @@ fn row(line: &[u8], kind: Kind, n: u32) -> Option<Phase> {
     is_numbers(line, width).then_some(rows(kind, n.saturating_sub(1)))
 }
 
-// Before n records more.
+// Before n records more. Apart from `rows`: one function of both would take the two phases, and be as long.
 fn records(n: u32) -> Phase {
     if n == 0 {
         Phase::Listing

@@ -48,8 +48,8 @@ fn is_answer(line: &[u8], n: Option<u32>) -> bool {
     }
 }
 
-// Why a message is refused as a whole: 2 too long, 3 ill-formed.
-fn whole(msg: &[u8]) -> Option<u64> {
+// Why a message is refused as a whole: 2 too long, 3 ill-formed. By its number, as the line has it.
+fn refused(msg: &[u8]) -> Option<u64> {
     if 2048 < msg.len() {
         Some(2)
     } else if utf8::well_formed(msg) {
@@ -61,7 +61,7 @@ fn whole(msg: &[u8]) -> Option<u64> {
 
 // Whether the first line of a V answer is right: no slice is left out where it counts none.
 fn is_count(line: &[u8], msg: &[u8]) -> bool {
-    let refused = whole(msg);
+    let refused = refused(msg);
     if replay::words(line) == 1 {
         return if replay::begins(line, &[0]) {
             msg.is_empty()
@@ -72,7 +72,7 @@ fn is_count(line: &[u8], msg: &[u8]) -> bool {
     refused.is_some_and(|n| replay::begins(line, &[4, n]))
 }
 
-// Whether a slice line says what the reading call reads from a place on, in a slice of that length.
+// Whether a slice line says what the reading call reads from a place on, in a slice of that length. By `as`: a usize has no From.
 fn is_slice(line: &[u8], msg: &[u8], at: usize, len: usize) -> bool {
     let start = at as u64;
     let len = len as u64;

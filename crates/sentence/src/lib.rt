@@ -57,7 +57,7 @@ fn digit(n: u16) -> u8
     b'0' + (n % 10) as u8
 }
 
-// A text in a lent buffer, as far as it is written: no Vec, since the library has no heap. What `put` writes says crate buffer, for other
+// A text in a lent buffer, as far as it is written: no Vec, since the library has no heap. Crate buffer says what `put` writes, for other
 // writers too.
 #[derive(Drop)]
 struct Writer<'a> {
@@ -74,7 +74,8 @@ impl Writer<'_> {
         self.len = buffer::put(self.buffer, self.len, text);
     }
 
-    // A number without leading zeros: the last of its five digits.
+    // A number without leading zeros: the last of its five digits. By hand: with itoa the call takes 120 bytes of stack, and the header says 80;
+    // and `write!` promises its text where it succeeds, but not that it does.
     #[tactic(auto, using(crate::proofs::Laws::last_digits))]
     fn put_decimal(&mut self, n: u16)
         requires { self.old.len + 5 ≤ length self.old.buffer.now }
@@ -94,7 +95,7 @@ impl Writer<'_> {
     }
 }
 
-// The refusal's sentence in the lent buffer: its length.
+// The refusal's sentence in the lent buffer: its length. By `as`, which is proved to lose nothing; try_from would add an error that no call gives.
 #[tactic(auto, unfolding(crate::specs::Sentence::telling, crate::specs::Sentence::buffer_after))]
 pub fn sentence(r: Refusal, buffer: &mut [u8]) -> Result<u16, Refusal>
     ensures { (result ≡ telling r buffer.old) × (buffer.new ≡ buffer_after r buffer.old) }

@@ -9,6 +9,7 @@ use layout::Span;
 use refusal::Refusal;
 use rows::ROOM;
 
+// No Display: a record is another crate's, and the line has some of its numbers.
 fn print_span(rt: &impl Print, s: &Span) {
     let _ = println!(rt;
         "{} {} {} {} {} {} {}",

@@ -15,7 +15,8 @@ use rows::Row;
 use walk::Chain;
 
 // Of the rows so far: what stands before the span and what from there on, how many of them are of the group, the spacing of its last row, and
-// its first fault. It is an Option beside the numbers and no Result, since the sums go on past a fault, as the definition's do.
+// its first fault. It is an Option beside the numbers and no Result, since the sums go on past a fault, as the definition's do. The spacing is no
+// Option: the count, which placing reads too, says whether there is a last row.
 #[derive(Clone, Copy, Default)]
 pub struct Sums {
     pub before: u64,
@@ -109,7 +110,8 @@ pub fn next_of(out: &[Span], j: usize) -> usize
     usize::from(rows::link_at(out, j))
 }
 
-// The sums of a pass, for the span with the row r: its line is walked.
+// The sums of a pass, for the span with the row r: its line is walked. That rows, out and heads are chained is asked here and below: out is lent
+// and changes between the calls, and a struct that held it would be made anew for each.
 #[tactic(auto, using(crate::proofs::Chain::sums_on, crate::proofs::Chain::sums_done))]
 pub fn offset_horiz(rows: &[Row], out: &[Span], heads: &[u16; 256], r: &Row) -> Sums
     requires { Chained rows.now out.now heads.now }
