@@ -42,7 +42,7 @@ use Rattle.answer.specs.Answer.{written_by, told, bare, placed_by, count_of, Rec
 -- where the loop stands: rows₀ and out₀ were there before it
 pub record Stands (call : Call) (number : ℕ) (rows₀ : List Row) (out₀ : List Span) (rows : List Row) (out : List Span) (p : Pages) (i : ℕ) : Type 0 where
   pub ready : Ready call rows₀ out₀
-  pub stands : InMessage call p
+  pub stands : InMessage call.table.config (length call.msg.now) p
   pub few : i + weight p.page_state ≤ 2 * p.at + 2
   pub reached : i ≤ number
   pub rowed : length rows ≡ length rows₀
@@ -58,7 +58,7 @@ numbered_start {call} {number} {rows} {out} {p} r e =
     subst (λ (q : Pages). Stands call number rows out rows out q 0) (sym e)
     (record {
       ready = r;
-      stands = first_in_law call;
+      stands = first_in_law call.table.config (length call.msg.now);
       few = omega arith;
       reached = omega arith;
       rowed = refl;

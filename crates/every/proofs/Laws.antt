@@ -109,7 +109,7 @@ module _ (n : ℕ) (out y : List Span) (h : n ≤ length out) (e : length y ≡ 
 pub record Walking (call : Call) (rows₀ : List Row) (shown₀ : List Shown) (out₀ : List Span) (rows : List Row) (shown : List Shown) (out : List Span)
     (p : Pages) (i n : ℕ) : Type 0 where
   pub asked : WalkAsked call rows₀ shown₀ out₀
-  pub stands : InMessage call p
+  pub stands : InMessage call.table.config (length call.msg.now) p
   pub rowed : length rows ≡ length rows₀
   pub long_shown : length shown ≡ length shown₀
   pub long_out : length out ≡ length out₀
@@ -126,7 +126,7 @@ walk_start {call} {rows} {shown} {out} {p} a e =
     subst (λ (q : Pages). Walking call rows shown out rows shown out q 0 0) (sym e)
     (record {
       asked = a;
-      stands = first_in_law call;
+      stands = first_in_law call.table.config (length call.msg.now);
       rowed = refl;
       long_shown = refl;
       long_out = refl;

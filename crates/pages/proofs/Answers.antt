@@ -130,5 +130,5 @@ pub pages_todo : (s : Board) (msg : List ℕ) → pages s (items s.config msg) �
 unfolding pages events opening turned items items_from slices
 pages_todo s msg = refl
 
-pub first_in_law : (call : Call) → InMessage call (first_of call.table.config)
-first_in_law call = record { within = omega arith; inside = whole_inside call.table.config }
+pub first_in_law : (c : Config) (all : ℕ) → InMessage c all (first_of c)
+first_in_law c all = record { within = omega arith; inside = whole_inside c }

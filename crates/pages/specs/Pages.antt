@@ -183,9 +183,9 @@ next_told s msg l p (Ok None) = []
 next_told s msg l p (Err r) = refused_page r ∷ []
 
 -- in the message and on the sign
-pub record InMessage (call : Call) (p : Pages) : Type 0 where
-  pub within : p.at ≤ length call.msg.now
-  pub inside : Inside call.table.config p.render_state.rect
+pub record InMessage (c : Config) (all : ℕ) (p : Pages) : Type 0 where
+  pub within : p.at ≤ all
+  pub inside : Inside c p.render_state.rect
 
 -- at most so many answers come from here to the next [np]: an off page that is due, an on page, and its off page
 abbrev pub weight : PageState → ℕ
@@ -200,7 +200,7 @@ IfShown P r = IfOk r (λ o. IfSome o P)
 
 -- an answer takes one of them, or bytes of the message; at is the place and w the weight before it, and out holds its records
 pub record Advances (call : Call) (out : List Span) (at w : ℕ) (p : Pages) (x : PageShown) : Type 0 where
-  pub stands : InMessage call p
+  pub stands : InMessage call.table.config (length call.msg.now) p
   pub less : 2 * at + weight p.page_state + 1 ≤ 2 * p.at + w
   pub few : shown_count x ≤ length call.msg.now
   pub looked : shown_looked x ≡ looked_for call.file.now call.msg.now out (shown_count x)
@@ -209,7 +209,7 @@ pub record Advances (call : Call) (out : List Span) (at w : ℕ) (p : Pages) (x 
 -- an answer can be read
 pub record NextAsked (call : Call) (p : Pages) (rows : List Row) (out : List Span) : Type 0 where
   pub ready : Ready call rows out
-  pub stands : InMessage call p
+  pub stands : InMessage call.table.config (length call.msg.now) p
 
 -- an on page was, and is r; p, rows and out were there before it, and p', rows' and out' are after it
 pub record OnRead (call : Call) (p : Pages) (rows : List Row) (out : List Span) (p' : Pages) (rows' : List Row) (out' : List Span)

@@ -1,2 +1,3 @@
 pub mod Kinds
+pub mod Phases
 pub mod Text

@@ -39,7 +39,10 @@ pub struct Input<'a, R> {
 }
 
 impl<'a, R: Read> Input<'a, R> {
-    pub fn new(source: R, buf: &'a mut [u8]) -> Self {
+    // At the start of a source.
+    pub fn new(source: R, buf: &'a mut [u8]) -> Self
+        ensures { (result.start ≡ 0) × (result.at ≡ 0) × (result.end ≡ 0) × (result.line ≡ 0) }
+    {
         Input {
             source,
             buf,

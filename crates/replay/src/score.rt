@@ -26,7 +26,7 @@ impl Score {
         first
     }
 
-    // `D 12 of 13 agree`. No Display: the score doesn't know its kind.
+    // `D 12 of 13 agree`. No Display: the score doesn't know its kind. Nothing is promised of what a write does.
     pub fn print(self, rt: &impl Print, kind: Kind) {
         let Score { agree, cases } = self;
         let _ = println!(rt; "{kind:?} {agree} of {cases} agree");

@@ -2,6 +2,7 @@
 ghost use Rattle.std.specs.Prelude.{◌≡◌};
 ghost use Rattle.replay.specs.Text.{word_of};
 ghost use Rattle.replay.specs.Kinds.{kind_of};
+ghost use Rattle.replay.specs.Phases.{answered, in_listing};
 
 use crate::{begins, is_line, is_numbers, number_at, word, words};
 
@@ -178,7 +179,9 @@ impl Stream {
     }
 
     // The case whose answer has a line that comes next, if it is none of a listing.
-    pub fn answering(self) -> Option<Kind> {
+    pub fn answering(self) -> Option<Kind>
+        ensures { result ≡ answered self.phase }
+    {
         match self.phase {
             Phase::Answer(kind) | Phase::Count(kind) | Phase::Rows(kind, _) => Some(kind),
             _ => None,
@@ -186,7 +189,9 @@ impl Stream {
     }
 
     // Whether a line of a listing comes next.
-    pub fn is_listing(self) -> bool {
+    pub fn is_listing(self) -> bool
+        ensures { result ≡ in_listing self.phase }
+    {
         matches!(self.phase, Phase::Listing | Phase::Records(_))
     }
 }

@@ -30,8 +30,8 @@ pub fn load<'a>(rt: &impl Files, buf: &'a mut [u8]) -> &'a [u8]
     }
 }
 
-// The line of a refusal: number, start, length and detail. A write that fails is passed over. No Display: Refusal is another crate's, and
-// its text is the sentence.
+// The line of a refusal: number, start, length and detail. A write that fails is passed over, so that nothing is promised. No Display: Refusal
+// is another crate's, and its text is the sentence.
 pub fn print_refusal(rt: &impl Print, r: Refusal) {
     let _ = println!(rt;
         "refused {} {} {} {}",
