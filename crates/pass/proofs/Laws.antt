@@ -45,7 +45,7 @@ use Rattle.pass.specs.declared.How.{How}
 use Rattle.pass.specs.declared.How.TheVariants.{Cut as ByCut, Turn as ByTurn, End as ByEnd}
 use Rattle.pass.specs.declared.PassDone.{PassDone}
 use Rattle.pass.specs.declared.Reached.{Reached}
-use Rattle.pass.specs.Pass.{Ending, ended, entries_by, entries_of, ending_by, ending_of, step_at, start_at, Inside, tag_bytes, items_in, entries_from, ending_from, row_in, looked_in, Holds, Storable, Stored, PassAsked, SpansRead, PassRead}
+use Rattle.pass.specs.Pass.{Ending, ended, entries_by, entries_of, ending_by, ending_of, step_at, Inside, tag_bytes, items_in, entries_from, ending_from, row_in, looked_in, Holds, Storable, Stored, PassAsked, SpansRead, PassRead}
 use Rattle.pass.proofs.Items.{spoken_narrow}
 
 -- ---- a rectangle inside the sign
@@ -383,27 +383,6 @@ module _ {call : Call} {from : ℕ} {first : RenderState} {rows₀ rows : List R
             holds = held_widths call x.state.font held' w.holds;
             slices = here.rest;
           }
-
-module _ {call : Call} {from : ℕ} {first : RenderState} {rows : List Row}
-    (asked : PassAsked call from first rows) where
-  -- where the loop begins
-  pub pass_start : {q : Reached} {held : Option (FontWidths 256)} {left : List Slice} → q ≡ start_at from first → held ≡ None
-      → left ≡ slices_from from call.msg.now → Stands call from first rows rows left q true held
-  pass_start {held = held} {left} d e k =
-      subst (λ (q : Reached). Stands call from first rows rows left q true held) (sym d)
-      (record {
-        counted = omega arith;
-        few = omega arith;
-        within = asked.within;
-        asked = asked;
-        room = refl;
-        rect = refl;
-        ending = refl;
-        entries = refl;
-        sum = omega arith;
-        holds = rw e tt;
-        slices = k;
-      })
 
 -- for the function `read_pass`
 pub ruleset pass_ways = (pass_asks, pass_past, pass_refuse)

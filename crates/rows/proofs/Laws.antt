@@ -1,8 +1,8 @@
 -- What is read of rows and records after one is put, and how a list is walked.
-use Rattle.std.specs.Prelude.{ℕ, zero, suc, ◌+◌, ◌-◌, ◌≤◌, ◌<◌, ◌≡◌, List, [], ◌∷◌, ◌++◌, length, get_or, set, take, drop, Bool, true, false, eqb, Option, Some, None}
-use Rattle.std.proofs.Common.{refl, ◌∙◌, ap, arith, add-one}
+use Rattle.std.specs.Prelude.{ℕ, zero, suc, ◌+◌, ◌≤◌, ◌<◌, ◌≡◌, List, [], ◌∷◌, ◌++◌, length, get_or, set, take, drop, Bool, true, false, eqb, Option, Some, None}
+use Rattle.std.proofs.Common.{refl, ◌∙◌, ap, arith}
 use borrow.Author.Tests.{eqb-true, eqb-false}
-use Rattle.std.proofs.lemmas.List.{get_or-set_same, get_or-set_other, take-set-le, take_more_set}
+use Rattle.std.proofs.lemmas.List.{get_or-set_same, get_or-set_other, take_more_set}
 use Rattle.std.proofs.Math.Seq.{length-take-le, drop-cons}
 use Rattle.std.specs.Option.{option_or}
 use Rattle.layout.specs.declared.Fault.{Fault}
@@ -24,15 +24,6 @@ module _ {A : Type 0} where
       let e : suc i + k ≡ i + suc k = omega arith in
       ap (λ (l : List A). f i ∷ l) (cells_last f (suc i) k ∙ ap (λ (n : ℕ). cells f (suc i) k ++ (f n ∷ [])) e)
 
-  pub cells_more : (f : ℕ → A) (i k m : ℕ) → m ≡ suc k → cells f i m ≡ f i ∷ cells f (suc i) k
-  cells_more f i k m e = rw e
-
-  pub cells_next : (f : ℕ → A) (i n : ℕ) → i < n → cells f i (n - i) ≡ f i ∷ cells f (i + 1) (n - (i + 1))
-  cells_next f i n h = rw (add-one i) (cells_more f i (n - suc i) (n - i) (omega arith))
-
-  pub cells_done : (f : ℕ → A) (i n : ℕ) → n ≤ i → cells f i (n - i) ≡ []
-  cells_done f i n h = let z : n - i ≡ 0 = omega arith in rw z
-
   pub cells_length : (f : ℕ → A) (i k : ℕ) → length (cells f i k) ≡ k
   cells_length f i zero = refl
   cells_length f i (suc k) = ap suc (cells_length f (suc i) k)
@@ -48,9 +39,6 @@ module _ {A : Type 0} where
 pub rows_put : (l : List Row) (i : ℕ) (r : Row) → RowRoom (i + 1) l → rows_of (set l i r) (i + 1) ≡ rows_of l i ++ (r ∷ [])
 rows_put l i r h = take_more_set l i r (omega arith)
 
-pub spans_put : (l : List Span) (i : ℕ) (s : Span) → SpanRoom (i + 1) l → spans_of (set l i s) (i + 1) ≡ spans_of l i ++ (s ∷ [])
-spans_put l i s h = take_more_set l i s (omega arith)
-
 pub spans_length : (l : List Span) (n : ℕ) → SpanRoom n l → length (spans_of l n) ≡ n
 spans_length l n h = length-take-le n l h
 
@@ -61,9 +49,6 @@ module _ (l : List Span) (i : ℕ) (s : Span) (l' : List Span) (p : l' ≡ set l
 
   pub span_stays : (j : ℕ) → (j ≡ i → ⊥) → span_at l' j ≡ span_at l j
   span_stays j n = ap (λ (y : List Span). span_at y j) p ∙ get_or-set_other l i j s blank_span n
-
-  pub spans_stay : (n : ℕ) → n ≤ i → spans_of l' n ≡ spans_of l n
-  spans_stay n h = ap (λ (y : List Span). spans_of y n) p ∙ take-set-le n l i s h
 
 -- ---- records that are not written yet
 

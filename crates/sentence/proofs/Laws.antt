@@ -1,8 +1,10 @@
 -- Decimals: their digits and how many; and the sentence, one text after the other.
-use Rattle.std.proofs.Common.{ℕ, zero, suc, ◌+◌, ◌-◌, ◌/◌, ◌%◌, ◌≤◌, ◌<◌, ◌≡◌, refl, ◌∙◌, ap, Bool, true, false, List, [], ◌∷◌, length, length-append, take, drop, zero-add, add-one, arith}
+use Rattle.std.proofs.Common.{ℕ, zero, suc, ◌+◌, ◌-◌, ◌/◌, ◌%◌, ◌≤◌, ◌<◌, ◌≡◌, refl, sym, ◌∙◌, ap, Bool, true, false, List, [], ◌∷◌, ◌++◌, length, set, length-set, length-append, add-zero, zero-add, add-one, add-suc, suc-add, arith}
+use Rattle.std.proofs.Math.Nat.{add-sub_cancel_left}
 use Rattle.std.specs.Prelude.{Ok, Err}
 use lib.Dec.{ltb}
 use borrow.Author.Tests.{lt-ltb, le-ltb}
+use lib.Seq.{sets, set_comm}
 use Rattle.base.specs.Pick.{pick}
 use Rattle.base.specs.Text.{ascii}
 use Rattle.buffer.specs.Put.{Put}
@@ -20,6 +22,76 @@ digits_length (suc w) n = rw (length-append, digits_length w (n / 10)) (add-one 
 pub decimal_length : (n : ℕ) → length (decimal n) ≡ digit_count n
 unfolding decimal
 decimal_length n = digits_length (digit_count n) n
+
+digits_last : (i j m : ℕ) → j ≡ suc i → digits i (m / 10) ++ ((48 + m % 10) ∷ []) ≡ digits j m
+unfolding digits
+digits_last i j m q = rw q
+
+digits_none : (i m : ℕ) → i ≡ 0 → digits i m ≡ []
+unfolding digits
+digits_none i m q = rw q
+
+-- a store past a run of stores comes before it
+sets_last : (xs l : List ℕ) (at d : ℕ) → sets l at (xs ++ (d ∷ [])) ≡ sets (set l (at + length xs) d) at xs
+sets_last [] l at d = rw (add-zero at)
+sets_last (x ∷ xs) l at d =
+    sets_last xs (set l at x) (suc at) d
+    ∙ rw (set_comm l at (suc at + length xs) x d (λ e. absurd (omega (arith, e))), suc-add at (length xs), ← add-suc at (length xs))
+
+-- ---- the loop: from the last digit on
+
+-- the digits of m from place at up to k are still to be written
+pub record Counting (at n : ℕ) (lent now : List ℕ) (end m k : ℕ) : Type 0 where
+  pub ends : end ≡ at + digit_count n
+  pub from : at ≤ k
+  pub upto : k ≤ end
+  pub room : end ≤ length lent
+  pub size : length now ≡ length lent
+  pub rest : sets now at (digits (k - at) m) ≡ sets lent at (decimal n)
+
+module _ {at n : ℕ} {lent : List ℕ} where
+  pub count_start : {w : ℕ} → w ≡ digit_count n → w ≤ 5 → at + 5 ≤ length lent → Counting at n lent lent (at + w) n (at + w)
+  unfolding decimal
+  count_start {w} e s h =
+      record {
+        ends = ap (λ (k : ℕ). at + k) e;
+        from = omega arith;
+        upto = omega arith;
+        room = omega arith;
+        size = refl;
+        rest = rw (add-sub_cancel_left, e);
+      }
+
+  pub count_on : {now : List ℕ} {end m k d : ℕ} → Counting at n lent now end m k → at < k → d ≡ 48 + m % 10
+      → Counting at n lent (set now (k - 1) d) end (m / 10) (k - 1)
+  count_on {now} {end} {m} {k} {d} z h e = record {
+    ends = z.ends;
+    from = omega arith;
+    upto = omega (arith, z.upto);
+    room = z.room;
+    size = length-set now (k - 1) d ∙ z.size;
+    rest = ap (λ (j : ℕ). sets (set now j d) at (digits (k - 1 - at) (m / 10))) place
+        ∙ sym (sets_last (digits (k - 1 - at) (m / 10)) now at d)
+        ∙ ap (λ (j : ℕ). sets now at (digits (k - 1 - at) (m / 10) ++ (j ∷ []))) e
+        ∙ whole (k - 1 - at) (k - at) (omega arith)
+        ∙ z.rest;
+  }
+    where
+      place : k - 1 ≡ at + length (digits (k - 1 - at) (m / 10))
+      place = omega (arith, digits_length (k - 1 - at) (m / 10))
+
+      whole : (i j : ℕ) → j ≡ suc i → sets now at (digits i (m / 10) ++ ((48 + m % 10) ∷ [])) ≡ sets now at (digits j m)
+      whole i j q = ap (sets now at) (digits_last i j m q)
+
+  pub count_end : {now : List ℕ} {end m k : ℕ} → Counting at n lent now end m k → k ≤ at → Put at (decimal n) lent now end
+  count_end {now} {end} {m} {k} z h =
+      record { ends = z.ends ∙ ap (λ (j : ℕ). at + j) (sym size_of); bytes = none_left (k - at) (omega (arith, z.from)) ∙ z.rest; size = z.size }
+    where
+      size_of : length (decimal n) ≡ digit_count n
+      size_of = decimal_length n
+
+      none_left : (i : ℕ) → i ≡ 0 → now ≡ sets now at (digits i m)
+      none_left i q = ap (sets now at) (sym (digits_none i m q))
 
 -- ---- a text and a number after it
 
@@ -42,33 +114,6 @@ digit_count_small n h = three (ltb n 10) (ltb n 100) (ltb n 1000) (lt-ltb n 1000
     three true b c e = omega arith
     three false true c e = omega arith
     three false false c e = rw e (omega arith)
-
--- ---- the last of five digits
-
-last_of_five : (n w : ℕ) → w ≤ 5
-    → take (5 - (5 - w)) (drop (5 - w) ((48 + n / 10000 % 10) ∷ (48 + n / 1000 % 10) ∷ (48 + n / 100 % 10) ∷ (48 + n / 10 % 10) ∷ (48 + n % 10) ∷ []))
-    ≡ digits w n
-unfolding digits
-last_of_five n zero h = refl
-last_of_five n (suc zero) h = refl
-last_of_five n (suc (suc zero)) h = refl
-last_of_five n (suc (suc (suc zero))) h = let tens : n / 10 / 10 ≡ n / 100 = omega arith in rw tens refl
-last_of_five n (suc (suc (suc (suc zero)))) h =
-    let tens : n / 10 / 10 ≡ n / 100 = omega arith in
-    let hundreds : n / 100 / 10 ≡ n / 1000 = omega arith in
-    rw (tens, hundreds) refl
-last_of_five n (suc (suc (suc (suc (suc zero))))) h =
-    let tens : n / 10 / 10 ≡ n / 100 = omega arith in
-    let hundreds : n / 100 / 10 ≡ n / 1000 = omega arith in
-    let thousands : n / 1000 / 10 ≡ n / 10000 = omega arith in
-    rw (tens, hundreds, thousands) refl
-last_of_five n (suc (suc (suc (suc (suc (suc w)))))) h = absurd (omega (arith, h))
-
-pub last_digits : (n w a b c d e : ℕ) → w ≡ digit_count n
-    → a ≡ 48 + n / 10000 % 10 → b ≡ 48 + n / 1000 % 10 → c ≡ 48 + n / 100 % 10 → d ≡ 48 + n / 10 % 10 → e ≡ 48 + n % 10
-    → take (5 - (5 - w)) (drop (5 - w) (a ∷ b ∷ c ∷ d ∷ e ∷ [])) ≡ decimal n
-unfolding decimal
-last_digits n w a b c d e q h₁ h₂ h₃ h₄ h₅ = rw (q, h₁, h₂, h₃, h₄, h₅) (last_of_five n (digit_count n) (digit_count_le n))
 
 -- ---- the sentence
 

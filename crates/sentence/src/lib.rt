@@ -1,7 +1,7 @@
 // The refusal as an English sentence: document 02, A1.
 #![tactic(auto)]
 
-ghost use Rattle.std.specs.Prelude.{◌≡◌, ◌++◌, ◌+◌, ◌%◌, ◌≤◌, ◌<◌, length};
+ghost use Rattle.std.specs.Prelude.{◌≡◌, ◌++◌, ◌+◌, ◌≤◌, ◌<◌, length};
 ghost use Rattle.buffer.specs.Put.{Put};
 ghost use Rattle.sentence.specs.Words.{words};
 ghost use Rattle.sentence.specs.Sentence.{digit_count, decimal, telling, buffer_after};
@@ -50,13 +50,6 @@ fn words(number: u8) -> &'static [u8]
     }
 }
 
-// The last digit of a number; by `as`, which is proved to lose nothing.
-fn digit(n: u16) -> u8
-    ensures { result ≡ 48 + n % 10 }
-{
-    b'0' + (n % 10) as u8
-}
-
 // A text in a lent buffer, as far as it is written: no Vec, since the library has no heap. Crate buffer says what `put` writes, for other
 // writers too.
 #[derive(Drop)]
@@ -74,9 +67,10 @@ impl Writer<'_> {
         self.len = buffer::put(self.buffer, self.len, text);
     }
 
-    // A number without leading zeros: the last of its five digits. By hand: with itoa the call takes 120 bytes of stack, and the header says 80;
-    // and `write!` promises its text where it succeeds, but not that it does.
-    #[tactic(auto, using(crate::proofs::Laws::last_digits))]
+    // A number without leading zeros, from its last digit on, in its place by an index: with its digits in an array of their own, or by itoa, the
+    // call takes 120 bytes of stack, and the header says 80. `write!` promises its text where it succeeds, but not that it does. By `as`, which is
+    // proved to lose nothing, here and below.
+    #[tactic(auto, using(crate::proofs::Laws::count_start))]
     fn put_decimal(&mut self, n: u16)
         requires { self.old.len + 5 ≤ length self.old.buffer.now }
         ensures put { Put self.old.len (decimal n) self.old.buffer.now self.new.buffer.now self.new.len }
@@ -84,18 +78,17 @@ impl Writer<'_> {
         ensures few { self.new.len ≤ self.old.len + 5 }
         ensures small { n < 1000 → self.new.len ≤ self.old.len + 3 }
     {
-        let digits = [
-            digit(n / 10000),
-            digit(n / 1000),
-            digit(n / 100),
-            digit(n / 10),
-            digit(n),
-        ];
-        self.put(&digits[5 - digit_count(n)..]);
+        let end = self.len + digit_count(n);
+        let mut m = n;
+        for k in (self.len..end).rev() {
+            self.buffer[k] = b'0' + (m % 10) as u8;
+            m /= 10;
+        }
+        self.len = end;
     }
 }
 
-// The refusal's sentence in the lent buffer: its length. By `as`, which is proved to lose nothing; try_from would add an error that no call gives.
+// The refusal's sentence in the lent buffer: its length.
 #[tactic(auto, unfolding(crate::specs::Sentence::telling, crate::specs::Sentence::buffer_after))]
 pub fn sentence(r: Refusal, buffer: &mut [u8]) -> Result<u16, Refusal>
     ensures { (result ≡ telling r buffer.old) × (buffer.new ≡ buffer_after r buffer.old) }

@@ -1,7 +1,9 @@
-use Rattle.sentence.proofs.Laws.{last_digits}
+use Rattle.std.proofs.Common.{rules}
+use Rattle.sentence.proofs.Laws.{count_on, count_end}
 use Rattle.sentence.proofs.Writer.put_decimal.Goals as goal
 
+pub loop-k-preserved : goal.loop-k-preserved
+loop-k-preserved c = search (count_on, rules)
+
 pub returns-clause-put : goal.returns-clause-put
-returns-clause-put c =
-    let shown = last_digits _ _ _ _ _ _ _ c.digit_count.ensures.count c.digit.ensures c.digit-2.ensures c.digit-3.ensures c.digit-4.ensures c.digit-5.ensures in
-    rw (← shown) c.put.ensures.put
+returns-clause-put c = search (count_end, rules)
