@@ -1,6 +1,6 @@
 -- How a table of widths is filled.
 use Prim.Native.Nat.{ℕ, zero, suc, ◌<◌}
-use mathlib.Core.Path.{◌≡◌, refl, sym, ◌∙◌}
+use mathlib.Core.Path.{◌≡◌, refl, sym}
 use mathlib.Core.List.{List, [], ◌∷◌, map}
 use mathlib.Core.Bool.{Bool, true, false}
 use native.Mathlib.Omega.{arith}
@@ -13,7 +13,7 @@ use Rattle.std.specs.Option.{option_or}
 use Rattle.base.specs.Pick.{pick}
 use Rattle.sign.specs.Sign.{Character}
 use Rattle.font.specs.Character.{lookup, character_in, letter_of}
-use Rattle.font.specs.Widths.{width_of, filled, Unfilled, Widths}
+use Rattle.font.specs.Widths.{width_of, filled, Unfilled}
 use Rattle.font.specs.declared.Found.{Found}
 
 -- a table with one width more, at each code
@@ -87,6 +87,3 @@ module _ (all : List Character) where
           go true None p = p
           go true (Some w) p = p
           go false x p = p
-
-  pub filling_end : (table : List (Option ℕ)) → Filling all [] table → Widths all table
-  filling_end table g c h = sym (or_none (get_or table c None)) ∙ g.at_code c h

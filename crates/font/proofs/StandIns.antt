@@ -38,14 +38,6 @@ capital_from n e =
     (leb-true 65 n ok.0, leb-true n 90 ok.1.0)
 
 module _ (n : ℕ) where
-  pub small_low : n < 97 → is_small n ≡ false
-  unfolding is_small
-  small_low h = rw (lt-leb 97 n h)
-
-  pub small_high : 122 < n → is_small n ≡ false
-  unfolding is_small
-  small_high h = rw (le-leb 97 n (omega arith), lt-leb n 122 h)
-
   pub small_is : 97 ≤ n → n ≤ 122 → is_small n ≡ true
   unfolding is_small
   small_is h k = rw (le-leb 97 n h, le-leb n 122 k)
@@ -166,9 +158,6 @@ pub record Standing (old table : List (Option ℕ)) (code : ℕ) : Type 0 where
   pub same : length table ≡ length old
   pub done : (c : ℕ) → c < length old → 97 ≤ c → c < code → get_or table c None ≡ option_or (get_or old c None) (get_or old (c - 32) None)
   pub left : (c : ℕ) → (97 ≤ c → c < code → ⊥) → get_or table c None ≡ get_or old c None
-
-pub standing_start : (table : List (Option ℕ)) → Standing table table 97
-standing_start table = record { same = refl; done = λ c l p q. absurd (omega arith); left = λ c n. refl }
 
 pub standing_on : (old table next : List (Option ℕ)) (code : ℕ) (v : Option ℕ) → Standing old table code → 97 ≤ code → code < 123
     → v ≡ get_or table (code - 32) None → next ≡ filled table code v → Standing old next (code + 1)

@@ -148,9 +148,6 @@ module _ (at : ℕ) (l : List ℕ) (h : at < length l) (r : ℕ) (e : r ≡ at +
   pub next_more : at < r
   next_more = omega (arith, e, slice_is (drop at l) left)
 
-  pub next_less : length l - r < length l - at
-  next_less = omega (arith, next_more)
-
 pub ruleset slices_ways = (cuts_next, cuts_end, next_le, next_from, next_more)
 
 -- for a loop over the slices from at on: s is the first, and ss are those that follow

@@ -122,24 +122,11 @@ unfolding codes codes_from
 codes_end l at h = rw (drop_of_length-le l h)
 
 -- at most four bytes
-pub extra_le : (b : ℕ) → extra b ≤ 3
-unfolding extra
-extra_le b = go (ltb b 192) (ltb b 224) (ltb b 240)
-  where
-    go : (t u v : Bool) → pick t 0 (pick u 1 (pick v 2 3)) ≤ 3
-    go true u v = omega arith
-    go false true v = omega arith
-    go false false true = omega arith
-    go false false false = omega arith
-
 -- for a loop over the characters: r is what `code_at` answers, the next code point and its length
 module _ (l : List ℕ) (at : ℕ) (r : Code) (e : r ≡ code_at l at) where
   pub len_is : r.len ≡ suc (extra (get_or l at 0))
   unfolding code_at
   len_is = ap (λ (x : Code). x.len) e
-
-  pub code_len : r.len ≤ 4
-  code_len = omega (arith, len_is, extra_le (get_or l at 0))
 
   module _ (h : at < length l) where
     pub codes_next : codes (drop at l) ≡ r.code ∷ codes (drop (at + r.len) l)
@@ -151,9 +138,6 @@ module _ (l : List ℕ) (at : ℕ) (r : Code) (e : r ≡ code_at l at) where
 
         same : at + 1 + extra b ≡ at + suc (extra b)
         same = omega arith
-
-    pub code_less : length l - (at + r.len) < length l - at
-    code_less = omega (arith, len_is)
 
 -- the first code point of a text, and what `next` leaves
 pub codes_first : (l : List ℕ) (k : ℕ) → 0 < length l → k ≡ min (code_at l 0).len (length l)
