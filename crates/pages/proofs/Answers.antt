@@ -10,6 +10,7 @@ use lib.Dec.{ltb}
 use Rattle.token.specs.Token.{slices}
 use Rattle.base.specs.Pick.{pick}
 use Rattle.refusal.specs.declared.Refusal.{Refusal}
+use Rattle.records.specs.declared.Config.{Config}
 use Rattle.layout.specs.declared.RenderState.{RenderState}
 use Rattle.layout.specs.Types.{Item, items, Board}
 use Rattle.layout.specs.Read.{scan, stop_if, read, opening, events}
