@@ -12,6 +12,7 @@ use layout::{Entry, Fault, Span};
 // again. just_page to span: of the state it was read in; justifications are its numbers, as refusal 9 orders them. spacing: its [sc] value where
 // fixed, else its font's: one there is in any case. lead: the line spacing of the [nl] before it. height, font_spacing: its font's height and line
 // spacing. fault: refusal 10, 11 or 12.
+// No Entry and Gauge inside: they would bring the rectangle and the version, which no row needs, into an array that each call clears.
 #[derive(Clone, Copy, Default)]
 pub struct Row {
     pub kind: u16,
