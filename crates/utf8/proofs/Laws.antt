@@ -121,8 +121,7 @@ pub codes_end : (l : List ℕ) (at : ℕ) → length l ≤ at → codes (drop at
 unfolding codes codes_from
 codes_end l at h = rw (drop_of_length-le l h)
 
--- at most four bytes
--- for a loop over the characters: r is what `code_at` answers, the next code point and its length
+-- r is what `code_at` answers, the code point at a place and its length
 module _ (l : List ℕ) (at : ℕ) (r : Code) (e : r ≡ code_at l at) where
   pub len_is : r.len ≡ suc (extra (get_or l at 0))
   unfolding code_at
