@@ -68,6 +68,8 @@ fn numbered(call: &Call, number: usize, rows: &mut [Row], out: &mut [Span]) -> P
 }
 
 // The same, with rows for as many spans as the message can have: one for each of its bytes. fits: the bytes of the array have to fit usize.
+// In a frame of its own, so that the stack does not hold them beside the tables with which a sign file is checked.
+#[inline(never)]
 fn paged<const N: usize>(call: &Call, number: usize, out: &mut [Span]) -> Placed
     requires rowed { length call.now.msg.now ≤ N }
     requires fits { N < 65536 }
