@@ -1,12 +1,13 @@
 /*
  * Kambelohi: the message core of lamp boards.
  *
- * Five calls: kambelohi_read says what stands at an offset of a MULTI message, kambelohi_list where the text of a page stands
- * on a sign, kambelohi_place the same with two counts, kambelohi_list_all the same of all its pages at once, and
- * kambelohi_sentence writes a refusal as an English sentence. Link target/staticlib/libkambelohi.a (x86-64 Linux), which
- * `tools/staticlib` writes. Of the C library it needs memcpy and memset, and nothing else.
+ * Six calls: kambelohi_read says what stands at an offset of a MULTI message, kambelohi_read_all what all its slices say,
+ * kambelohi_list where the text of a page stands on a sign, kambelohi_place the same with two counts, kambelohi_list_all the same
+ * of all its pages at once, and kambelohi_sentence writes a refusal as an English sentence. Link
+ * target/staticlib/libkambelohi.a (x86-64 Linux), which `tools/staticlib` writes. Of the C library it needs memcpy and memset,
+ * and nothing else.
  *
- * What is said here of answers, records and sentences follows from contracts that are proved of the code
+ * What is said here of answers, readings, records and sentences follows from contracts that are proved of the code
  * (crates/kambelohi_c/src/lib.rt), for any bytes, any lengths, any offset or answer number, and any numbers of a refusal. A call
  * always returns, and keeps nothing.
  *
@@ -17,6 +18,8 @@
  * - if it is that of the lent records: points to span_count of them, may also be written, is aligned as kambelohi_span asks
  *   (2 bytes), and shares no byte with sign file or message, and nobody else reads the records before the call returns;
  * - if it is that of the lent answers: the same of answer_count answers, which also share no byte with the records;
+ * - if it is that of the lent readings: points to reading_count of them, may also be written, is aligned as kambelohi_reading
+ *   asks (4 bytes), and shares no byte with the message, and nobody else reads the readings before the call returns;
  * - if it is that of a sentence's buffer: points to buffer_len bytes that may also be written, and that nobody else reads before
  *   the call returns.
  *
@@ -39,6 +42,7 @@ extern "C" {
 /* Bytes of stack that a call takes at most. */
 enum {
     KAMBELOHI_READ_STACK = 512,
+    KAMBELOHI_READ_ALL_STACK = 512,
     KAMBELOHI_LIST_STACK = 163840,
     KAMBELOHI_PLACE_STACK = 163840,
     KAMBELOHI_LIST_ALL_STACK = 237568,
@@ -48,8 +52,11 @@ enum {
 /* A longer sign file is refused with 1, a longer message with 2. */
 enum { KAMBELOHI_SIGN_FILE_BYTES = 65535, KAMBELOHI_MESSAGE_BYTES = 2048 };
 
-/* A lent slice of fewer records is refused with 4, a buffer of fewer bytes with 16. No page, and no sentence, has more of them. */
-enum { KAMBELOHI_RECORDS = 1400, KAMBELOHI_SENTENCE_BYTES = 96 };
+/*
+ * A lent slice of fewer records or readings is refused with 4, a buffer of fewer bytes with 16. No page, no message and no
+ * sentence has more of them.
+ */
+enum { KAMBELOHI_RECORDS = 1400, KAMBELOHI_READINGS = 2048, KAMBELOHI_SENTENCE_BYTES = 96 };
 
 /* kambelohi_list_all: fewer answers or records are refused with 4. No message has more of them. */
 enum { KAMBELOHI_ALL_ANSWERS = 1026, KAMBELOHI_ALL_RECORDS = 2048 };
@@ -58,6 +65,8 @@ enum { KAMBELOHI_ALL_ANSWERS = 1026, KAMBELOHI_ALL_RECORDS = 2048 };
  * The refusals of all calls: number, start, length and detail. What is not said of a refusal is 0.
  *
  * kambelohi_read has 2 to 7, in this order: 2 and 3 are of the whole message, 4 of the offset, 5 to 7 of the slice there.
+ *
+ * kambelohi_read_all has 2 to 4, in this order; 5 to 7 are told of each slice and do not end the call.
  *
  * kambelohi_list and kambelohi_place have 1 to 4 in this order, for every answer number. Then page after page: 5 to 7 by
  * position in the message, up to and with the page's [np]; then pass after pass (a pass ends at [tr], [np] or the end), 6 and 8
@@ -77,8 +86,8 @@ enum {
     KAMBELOHI_TOO_LONG = 2,          /* "message is over 2,048 bytes, shorten it" */
     KAMBELOHI_ILL_FORMED = 3,        /* "message is not UTF-8, type it again"; it is not well-formed */
     KAMBELOHI_BAD_CALL = 4,          /* "room is too small, or offset is wrong"; kambelohi_list: fewer than KAMBELOHI_RECORDS
-                                        records are lent; kambelohi_read: the offset is past the message or inside a
-                                        character */
+                                        records are lent; kambelohi_read_all: fewer than KAMBELOHI_READINGS; kambelohi_read:
+                                        the offset is past the message or inside a character */
     KAMBELOHI_BAD_TAG = 5,           /* "tag is unknown, or not for this board"; no known tag, or a stray bracket;
                                         kambelohi_list: or a tag that the sign does not support, or field 0; place of the
                                         slice */
@@ -161,6 +170,44 @@ typedef struct {
  * 255. No other slice reads otherwise.
  */
 kambelohi_read_answer kambelohi_read(const uint8_t *msg, size_t len, size_t offset, bool long_times);
+
+/* ---- reading all slices */
+
+/* Kinds of an answer of kambelohi_read_all. */
+enum {
+    KAMBELOHI_ALL_READ = 1,         /* all slices are read; count is how many there are */
+    KAMBELOHI_READ_ALL_REFUSED = 2  /* number, start, length and detail of a refusal */
+};
+
+/*
+ * A slice of a message. Where number is 0: code and n say its value, as in kambelohi_read_answer. Else number is that of its
+ * refusal, 5 to 7, and code and n are 0.
+ */
+typedef struct {
+    uint32_t start;
+    uint32_t length;
+    uint32_t number;
+    uint32_t code;
+    uint32_t n[8];
+} kambelohi_reading;
+
+/* What kambelohi_read_all answers. What a kind does not use is 0. */
+typedef struct {
+    uint16_t kind;
+    uint16_t count;
+    uint16_t number;
+    uint16_t start;
+    uint16_t length;
+    uint16_t detail;
+} kambelohi_read_all_answer;
+
+/*
+ * Reads every slice of a message, one after the other, also after one that fails: each is what kambelohi_read says at its start,
+ * with the same long_times. The first starts at 0, the next at start + length of the one before, and the last ends at the message's
+ * end. They are written to the first elements of readings; all others stay as they were, and a refusal writes nothing.
+ */
+kambelohi_read_all_answer kambelohi_read_all(const uint8_t *msg, size_t len, bool long_times, kambelohi_reading *readings,
+                                             size_t reading_count);
 
 /* ---- listing */
 

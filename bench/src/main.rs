@@ -1,10 +1,11 @@
 //! Times our calls beside the Rust.
 //!
-//! Of each input both sides do the same: read all values of the message; list
-//! all answers of the message, ours by one call for each answer and by one call
-//! for the whole listing, the Rust by its iterator over a sign that is built
-//! once, raster included. A round times one side after the other; the ratio of
-//! a round is ours to the Rust's.
+//! Of each input both sides do the same: read all values of the message, ours
+//! by one call for each slice and by one call for all; list all answers of the
+//! message, ours by one call for each answer and by one call for the whole
+//! listing, the Rust by its iterator over a sign that is built once, raster
+//! included. A round times one side after the other; the ratio of a round is
+//! ours to the Rust's.
 
 #[allow(dead_code)]
 #[path = "../../tests/compare/src/kambelohi.rs"]
@@ -12,7 +13,7 @@ mod kambelohi;
 mod inputs;
 
 use inputs::{Input, inputs};
-use kambelohi::{Shown, Span, list, list_all, read};
+use kambelohi::{Reading, Shown, Span, list, list_all, read, read_all};
 use kambelohi_oracle::{Sign, run_values};
 use std::hint::black_box;
 use std::time::{Duration, Instant};
@@ -20,7 +21,7 @@ use std::time::{Duration, Instant};
 const ROUNDS: usize = 15;
 const SHORTEST: Duration = Duration::from_millis(12);
 
-fn read_all(msg: &[u8]) -> usize {
+fn read_each(msg: &[u8]) -> usize {
     let mut at = 0;
     let mut count = 0;
     loop {
@@ -97,12 +98,18 @@ struct Timed {
     series: &'static str,
     name: &'static str,
     reading: Rounds,
+    all: Rounds,
     listing: Rounds,
     whole: Rounds,
     first: Rounds,
 }
 
-fn timed(input: &Input, shown: &mut [Shown], spans: &mut [Span]) -> Timed {
+fn timed(
+    input: &Input,
+    readings: &mut [Reading],
+    shown: &mut [Shown],
+    spans: &mut [Span],
+) -> Timed {
     let Ok(sign) = Sign::read(&input.sign) else {
         panic!("{}: the sign file is refused", input.name);
     };
@@ -110,9 +117,15 @@ fn timed(input: &Input, shown: &mut [Shown], spans: &mut [Span]) -> Timed {
     let msg = ms.as_bytes();
     let answers = sign.run(ms);
     assert_eq!(answers, list_each(&input.sign, msg, spans), "{}", input.name);
-    let all = list_all(&input.sign, msg, shown, spans);
-    assert_eq!((1, answers), (all.kind, all.answers.into()), "{}", input.name);
-    let reading = rounds(|| read_all(msg), || run_values(ms));
+    let listed = list_all(&input.sign, msg, shown, spans);
+    assert_eq!((1, answers), (listed.kind, listed.answers.into()), "{}", input.name);
+    let slices = usize::from(read_all(msg, false, readings).count);
+    assert_eq!(slices, read_each(msg), "{}", input.name);
+    let reading = rounds(|| read_each(msg), || run_values(ms));
+    let all = rounds(
+        || usize::from(read_all(msg, false, readings).count),
+        || run_values(ms),
+    );
     let listing =
         rounds(|| list_each(&input.sign, msg, spans), || sign.run(ms));
     let whole = rounds(
@@ -131,33 +144,43 @@ fn timed(input: &Input, shown: &mut [Shown], spans: &mut [Span]) -> Timed {
             .collect(),
     );
     println!(
-        "| {} | {} | {answers} | {} | {} | {} | {} | {} |",
+        "| {} | {} | {answers} | {} | {} | {} | {} | {} | {} |",
         input.name,
         msg.len(),
         reading.ratio(0.0),
+        all.ratio(0.0),
         listing.ratio(0.0),
         listing.ratio(check * (answers as f64 + 1.0)),
         whole.ratio(0.0),
         first.ratio(0.0),
     );
-    Timed { series: input.series, name: input.name, reading, listing, whole, first }
+    Timed {
+        series: input.series,
+        name: input.name,
+        reading,
+        all,
+        listing,
+        whole,
+        first,
+    }
 }
 
 /// How much longer each input of a series takes than the one before it
 fn growth(all: &[Timed]) {
     println!();
-    println!("| from | to | reading, ours | the Rust's | listing, ours | in one call | the Rust's | first answer, ours |");
-    println!("|---|---|---|---|---|---|---|---|");
+    println!("| from | to | reading, ours | in one call | the Rust's | listing, ours | in one call | the Rust's | first answer, ours |");
+    println!("|---|---|---|---|---|---|---|---|---|");
     for pair in all.windows(2) {
         let (a, b) = (&pair[0], &pair[1]);
         if a.series.is_empty() || a.series != b.series {
             continue;
         }
         println!(
-            "| {} | {} | {:.1} | {:.1} | {:.1} | {:.1} | {:.1} | {:.1} |",
+            "| {} | {} | {:.1} | {:.1} | {:.1} | {:.1} | {:.1} | {:.1} | {:.1} |",
             a.name,
             b.name,
             b.reading.ours() / a.reading.ours(),
+            b.all.ours() / a.all.ours(),
             b.reading.rust() / a.reading.rust(),
             b.listing.ours() / a.listing.ours(),
             b.whole.ours() / a.whole.ours(),
@@ -168,13 +191,14 @@ fn growth(all: &[Timed]) {
 }
 
 fn main() {
+    let mut readings = vec![Reading::default(); 2048];
     let mut shown = vec![Shown::default(); 1026];
     let mut spans = vec![Span::default(); 2048];
-    println!("| input | bytes | answers | reading all values | listing all answers | the same without the sign file's check | the whole listing in one call | the first answer alone |");
-    println!("|---|---|---|---|---|---|---|---|");
+    println!("| input | bytes | answers | reading all values | reading in one call | listing all answers | the same without the sign file's check | the whole listing in one call | the first answer alone |");
+    println!("|---|---|---|---|---|---|---|---|---|");
     let all: Vec<Timed> = inputs()
         .iter()
-        .map(|input| timed(input, &mut shown, &mut spans))
+        .map(|input| timed(input, &mut readings, &mut shown, &mut spans))
         .collect();
     growth(&all);
 }

@@ -2,8 +2,9 @@
  * include/kambelohi.h as a C program has it, and as a C++ program: the sizes and offsets of its structs (asserted while it is compiled),
  * and its calls. Its argument is boards/p/sign.bin. It ends with 1 where anything differs.
  *
- * Sign file, message, answers, records and buffer stand each before a page that nobody may touch, so a byte read or written past a length
- * ends the program. Answers, records and buffer are patterned before each call, and what the answer does not count must be as it was.
+ * Sign file, message, answers, records, readings and buffer stand each before a page that nobody may touch, so a byte read or written past a
+ * length ends the program. Answers, records, readings and buffer are patterned before each call, and what the answer does not count must be as
+ * it was.
  */
 #define _DEFAULT_SOURCE
 #include "kambelohi.h"
@@ -29,6 +30,21 @@ FIELD(kambelohi_read_answer, length, 12, 4);
 FIELD(kambelohi_read_answer, detail, 16, 4);
 FIELD(kambelohi_read_answer, code, 20, 4);
 FIELD(kambelohi_read_answer, n, 24, 32);
+
+static_assert(sizeof(kambelohi_reading) == 48, "size of kambelohi_reading");
+FIELD(kambelohi_reading, start, 0, 4);
+FIELD(kambelohi_reading, length, 4, 4);
+FIELD(kambelohi_reading, number, 8, 4);
+FIELD(kambelohi_reading, code, 12, 4);
+FIELD(kambelohi_reading, n, 16, 32);
+
+static_assert(sizeof(kambelohi_read_all_answer) == 12, "size of kambelohi_read_all_answer");
+FIELD(kambelohi_read_all_answer, kind, 0, 2);
+FIELD(kambelohi_read_all_answer, count, 2, 2);
+FIELD(kambelohi_read_all_answer, number, 4, 2);
+FIELD(kambelohi_read_all_answer, start, 6, 2);
+FIELD(kambelohi_read_all_answer, length, 8, 2);
+FIELD(kambelohi_read_all_answer, detail, 10, 2);
 
 static_assert(sizeof(kambelohi_span) == 30, "size of kambelohi_span");
 FIELD(kambelohi_span, kind, 0, 2);
@@ -90,12 +106,18 @@ FIELD(kambelohi_sentence_answer, start, 6, 2);
 FIELD(kambelohi_sentence_answer, length, 8, 2);
 FIELD(kambelohi_sentence_answer, detail, 10, 2);
 
-/* a span is aligned as the header says */
+/* a span and a reading are aligned as the header says */
 typedef struct {
     char before;
     kambelohi_span span;
 } aligned_span;
 FIELD(aligned_span, span, 2, 30);
+
+typedef struct {
+    char before;
+    kambelohi_reading reading;
+} aligned_reading;
+FIELD(aligned_reading, reading, 4, 48);
 
 /* ---- lent memory */
 
@@ -115,7 +137,7 @@ static uint8_t *fence(void) {
     return (uint8_t *)map + ROOM;
 }
 
-static uint8_t *file_end, *msg_end, *shown_end, *spans_end, *buffer_end;
+static uint8_t *file_end, *msg_end, *shown_end, *spans_end, *readings_end, *buffer_end;
 
 /* Bytes, lent so that they end where their memory ends. */
 typedef struct {
@@ -569,6 +591,78 @@ static void read_refusals(void) {
     reads("2,048 bytes", lend_times(2048, "A"), 0, "0 0 0 2048 0 21: 0 2048 0 0 0 0 0 0;");
 }
 
+/* ---- reading all slices */
+
+/* One call on count patterned readings, and whether those that it does not count are as they were. */
+static kambelohi_read_all_answer call_read_all(const char *name, lent msg, bool is_long, size_t count) {
+    static uint8_t pattern[(KAMBELOHI_READINGS + 1) * sizeof(kambelohi_reading)];
+    static unsigned turn = 0;
+    size_t size = count * sizeof(kambelohi_reading);
+    uint8_t *at = readings_end - size;
+    for (size_t i = 0; i < size; i++) {
+        pattern[i] = (uint8_t)(i * 37 + turn);
+    }
+    turn += 13;
+    memcpy(at, pattern, size);
+    kambelohi_read_all_answer a = kambelohi_read_all(msg.at, msg.len, is_long, (kambelohi_reading *)(void *)at, count);
+    size_t written = a.kind == KAMBELOHI_ALL_READ ? a.count * sizeof(kambelohi_reading) : 0;
+    must(name, "as many readings as are lent", written <= size);
+    must(name, "readings past the count are as they were", memcmp(at + written, pattern + written, size - written) == 0);
+    return a;
+}
+
+static void say_all(kambelohi_read_all_answer a) {
+    say("%d %d %d %d %d %d;", a.kind, a.count, a.number, a.start, a.length, a.detail);
+}
+
+/* Each reading is what the reading call says at its start, from 0 on to the message's end. */
+static void reads_all(const char *name, lent msg, size_t slices) {
+    for (size_t turn = 0; turn < 4; turn++) {
+        size_t count = KAMBELOHI_READINGS + turn % 2;
+        bool is_long = turn >= 2;
+        kambelohi_read_all_answer a = call_read_all(name, msg, is_long, count);
+        const kambelohi_reading *r = (const kambelohi_reading *)(void *)(readings_end - count * sizeof(kambelohi_reading));
+        char want[80];
+        size_t offset = 0;
+        int alike = 1;
+        say_all(a);
+        snprintf(want, sizeof want, "%d %zu 0 0 0 0;", KAMBELOHI_ALL_READ, slices);
+        must_be(name, want);
+        for (size_t i = 0; i < a.count; i++) {
+            kambelohi_read_answer one = kambelohi_read(msg.at, msg.len, offset, is_long);
+            alike &= r[i].start == offset && r[i].start == one.start && r[i].length == one.length && r[i].number == one.number
+                     && r[i].code == one.code && memcmp(r[i].n, one.n, sizeof one.n) == 0;
+            offset = one.start + one.length;
+        }
+        must(name, "each reading is the reading call's", alike);
+        must(name, "they end where the message ends", offset == msg.len);
+    }
+}
+
+static void refuses_all(const char *name, lent msg, size_t count, int number) {
+    char want[80];
+    snprintf(want, sizeof want, "%d 0 %d 0 0 0;", KAMBELOHI_READ_ALL_REFUSED, number);
+    say_all(call_read_all(name, msg, false, count));
+    must_be(name, want);
+    say_all(call_read_all(name, msg, true, count));
+    must_be(name, want);
+}
+
+static void all_slices(void) {
+    reads_all("all of a message", lend_text("[pt256o5]A\xc3\xa9[[[xx][np]B][nl10]\xe2\x82\xac"), 9);
+    reads_all("all of nothing", lend_text(""), 0);
+    reads_all("all of 2,048 bytes", lend_times(2048, "A"), 1);
+    reads_all("2,048 slices", lend_times(1024, "A]"), 2048);
+    reads_all("brackets the wrong way", lend_times(1024, "]["), 1025);
+    reads_all("all of 1,024 brackets", lend_times(1024, "[["), 1024);
+    reads_all("values that signs do not support", lend_text("[cb9][cr1,2,3,4,5,6,7][f13,8][g5,6,7,0010][ms1,xyz][/ms4294967295][mvl9r100,2,3,hello]"), 7);
+    refuses_all("all of 2,049 bytes", lend_times(2049, "\xff"), 0, KAMBELOHI_TOO_LONG);
+    refuses_all("all of an ill-formed message", lend_text("A[np]\xc3"), 0, KAMBELOHI_ILL_FORMED);
+    refuses_all("an ill-formed message, readings enough", lend_text("A[np]\xc3"), KAMBELOHI_READINGS, KAMBELOHI_ILL_FORMED);
+    refuses_all("2,047 readings", lend_text("A"), KAMBELOHI_READINGS - 1, KAMBELOHI_BAD_CALL);
+    refuses_all("no reading", lend_text(""), 0, KAMBELOHI_BAD_CALL);
+}
+
 /* ---- the refusal as a sentence */
 
 /* One call on a patterned buffer of size bytes: the answer and what was written; all other bytes are as they were. */
@@ -628,6 +722,7 @@ int main(int argc, char **argv) {
     msg_end = fence();
     shown_end = fence();
     spans_end = fence();
+    readings_end = fence();
     buffer_end = fence();
     worked_boards(lend(file_end, sign, len));
     page_counts(lend(file_end, sign, len));
@@ -637,6 +732,7 @@ int main(int argc, char **argv) {
     long_times();
     slices();
     read_refusals();
+    all_slices();
     sentences();
     printf("header: %d checks%s\n", checks, failed ? ", and some failed" : "");
     return failed;

@@ -8,7 +8,8 @@
  *
  * An L line, for the listing and the placing call: every answer up to the end or a refusal, the two after it, the last number there is, and
  * a slice of too few records; and the whole listing in one call, also on slices of too few answers and records. A V line, and the message
- * of an L line: the reading call at every offset, past the end, and at the last number there is.
+ * of an L line: the reading call at every offset, past the end, and at the last number there is, and all slices in one call, on enough
+ * readings and too few.
  * Before the first line, as line 0: the sentences of all numbers with places of one to five digits, and a buffer of too few bytes. Every
  * refusal of each call must have come.
  */
@@ -39,6 +40,7 @@ typedef struct {
 } measure;
 
 static measure reading = {"kambelohi_read", KAMBELOHI_READ_STACK, 0, 0, {0}};
+static measure slices = {"kambelohi_read_all", KAMBELOHI_READ_ALL_STACK, 0, 0, {0}};
 static measure listing = {"kambelohi_list", KAMBELOHI_LIST_STACK, 0, 0, {0}};
 static measure placing = {"kambelohi_place", KAMBELOHI_PLACE_STACK, 0, 0, {0}};
 static measure whole = {"kambelohi_list_all", KAMBELOHI_LIST_ALL_STACK, 0, 0, {0}};
@@ -50,6 +52,7 @@ static uint8_t *file, *msg;
 static size_t file_len, msg_len;
 static kambelohi_shown shown[KAMBELOHI_ALL_ANSWERS];
 static kambelohi_span spans[KAMBELOHI_ALL_RECORDS];
+static kambelohi_reading readings[KAMBELOHI_READINGS];
 
 /* The lowest byte of the stack that may be touched, the one below which the calls of a case are made, and what an overrun says. */
 static unsigned char *floor_at;
@@ -73,12 +76,21 @@ static void overrun(int sig) {
         below = (unsigned char *)alloca((size_t)(here - floor_at) - (SAID) - LITTLE);  \
     } while (0)
 
-static __attribute__((noinline)) void read_all(void) {
+static __attribute__((noinline)) void read_each(void) {
     GIVE_AWAY(KAMBELOHI_READ_STACK);
     for (size_t n = 0; n <= msg_len + 2; n++) {
         kambelohi_read_answer a = kambelohi_read(msg, msg_len, n <= msg_len + 1 ? n : SIZE_MAX, false);
         reading.calls++;
         reading.refusals[a.number % 32]++;
+    }
+}
+
+static __attribute__((noinline)) void read_all(void) {
+    GIVE_AWAY(KAMBELOHI_READ_ALL_STACK);
+    for (size_t few = 0; few < 2; few++) {
+        kambelohi_read_all_answer a = kambelohi_read_all(msg, msg_len, false, readings, KAMBELOHI_READINGS - few);
+        slices.calls++;
+        slices.refusals[a.number % 32]++;
     }
 }
 
@@ -152,8 +164,10 @@ static void *run(void *all) {
         list_whole();
     } else if (all == &telling) {
         tell_all();
-    } else {
+    } else if (all == &slices) {
         read_all();
+    } else {
+        read_each();
     }
     return NULL;
 }
@@ -206,6 +220,7 @@ static void line(const char *text) {
     } else if (strncmp(text, "L ", 2) == 0 || strncmp(text, "V ", 2) == 0) {
         msg = decode(text + 2, &msg_len);
         take(&reading);
+        take(&slices);
         if (text[0] == 'L') {
             take(&listing);
             take(&placing);
@@ -256,5 +271,6 @@ int main(void) {
     }
     free(text);
     free(file);
-    return judge(&reading, 2, 7) | judge(&listing, 1, 15) | judge(&placing, 1, 15) | judge(&whole, 1, 15) | judge(&telling, 16, 16);
+    return judge(&reading, 2, 7) | judge(&slices, 2, 4) | judge(&listing, 1, 15) | judge(&placing, 1, 15) | judge(&whole, 1, 15)
+           | judge(&telling, 16, 16);
 }

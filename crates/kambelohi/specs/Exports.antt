@@ -4,6 +4,7 @@ use Rattle.numbers.specs.Numbers.{numbers_of}
 use Rattle.reading.specs.declared.Reading.{Reading}
 use Rattle.reading.specs.declared.Reading.TheVariants.{Slice, End, Refused}
 use Rattle.kambelohi.specs.declared.ReadAnswer.{ReadAnswer}
+use Rattle.kambelohi.specs.declared.ReadAllAnswer.{ReadAllAnswer}
 use Rattle.refusal.specs.declared.Refusal.{Refusal}
 use Rattle.layout.specs.declared.Answer.{Answer}
 use Rattle.layout.specs.declared.Answer.TheVariants.{On, Off, End as LastEnd, Refused as RefusedBy}
@@ -22,6 +23,11 @@ abbrev pub read_answer : Reading → ReadAnswer
 read_answer (Slice p v) = record { kind = 0; number = 0; start = p.start; length = p.len; detail = 0; code = (numbers_of v).code; n = (numbers_of v).n }
 read_answer End = record { kind = 1; number = 0; start = 0; length = 0; detail = 0; code = 0; n = no_numbers }
 read_answer (Refused f) = record { kind = 2; number = f.number; start = f.start; length = f.length; detail = f.detail; code = 0; n = no_numbers }
+
+-- all slices are read is 1, a refusal 2
+abbrev pub read_all_answer : Result ℕ Refusal → ReadAllAnswer
+read_all_answer (Ok n) = record { kind = 1; count = n; number = 0; start = 0; length = 0; detail = 0 }
+read_all_answer (Err f) = record { kind = 2; count = 0; number = f.number; start = f.start; length = f.length; detail = f.detail }
 
 abbrev pub plain_answer : ℕ → ℕ → ℕ → ListAnswer
 plain_answer k d n = record { kind = k; duration = d; count = n; number = 0; start = 0; length = 0; detail = 0 }

@@ -6,8 +6,9 @@ ghost use Rattle.std.specs.Prelude.{◌≡◌};
 ghost use Rattle.every.specs.All.{listing_all as all_of, answers_after as answers_of, records_after as records_of};
 ghost use Rattle.layout.specs.Listing.{listing as listing_of, after as after_of};
 ghost use Rattle.counts.specs.Placing.{placing as placing_of};
-ghost use Rattle.kambelohi.specs.Exports.{read_answer, list_answer, place_answer, list_all_answer, sentence_answer};
+ghost use Rattle.kambelohi.specs.Exports.{read_answer, read_all_answer, list_answer, place_answer, list_all_answer, sentence_answer};
 ghost use Rattle.reading.specs.Reading.{reading as reading_of};
+ghost use Rattle.readings.specs.Readings.{all_read as all_read_of, read_after as read_after_of};
 ghost use Rattle.refusal.specs.Refusals.{refusal as refusal_of};
 ghost use Rattle.sentence.specs.Sentence.{telling as telling_of, buffer_after as buffer_of};
 
@@ -16,6 +17,7 @@ use every::{Listed, Shown};
 use layout::{Answer, Span};
 use numbers::Numbers;
 use reading::Reading;
+use readings::SliceRead;
 use refusal::Refusal;
 
 // kind: 0 a slice with its value, 1 the end of the message, 2 a refusal. Of a slice: start, length, and the value's code and eight numbers.
@@ -71,6 +73,50 @@ pub fn kambelohi_read(msg: &[u8], offset: usize, long_times: bool) -> ReadAnswer
     ensures { result ≡ read_answer (reading_of long_times msg.now offset) }
 {
     ReadAnswer::from(reading::read(msg, offset, long_times))
+}
+
+// An answer of kambelohi_read_all. kind: 1 all slices are read, 2 a refusal. Of the first: how many slices; of a refusal: number, start, length and
+// detail. What a kind does not use is 0.
+#[repr(C)]
+#[derive(Clone, Copy, Default)]
+pub struct ReadAllAnswer {
+    pub kind: u16,
+    pub count: u16,
+    pub number: u16,
+    pub start: u16,
+    pub length: u16,
+    pub detail: u16,
+}
+
+// The numbers of the count, or of the refusal: those of a sentence's answer, in a struct of its own, since C tells the answers of calls apart by type.
+impl From<Result<u16, Refusal>> for ReadAllAnswer {
+    ghost from_gives = { λ c r. r ≡ read_all_answer c };
+
+    fn from(c: Result<u16, Refusal>) -> ReadAllAnswer {
+        match c {
+            Ok(slices) => ReadAllAnswer {
+                kind: 1,
+                count: slices,
+                ..ReadAllAnswer::default()
+            },
+            Err(f) => ReadAllAnswer {
+                kind: 2,
+                number: u16::from(f.number),
+                start: f.start,
+                length: f.length,
+                detail: f.detail,
+                ..ReadAllAnswer::default()
+            },
+        }
+    }
+}
+
+// Reading all slices: message, whether long times hold, and the lent slice.
+pub fn kambelohi_read_all(msg: &[u8], long_times: bool, recs: &mut [SliceRead]) -> ReadAllAnswer
+    ensures { (result ≡ read_all_answer (all_read_of long_times msg.now recs.old))
+        × (recs.new ≡ read_after_of long_times msg.now recs.old) }
+{
+    ReadAllAnswer::from(readings::read_all(msg, long_times, recs))
 }
 
 // An answer of a listing. kind: 1 on, 2 off, 3 the end, 4 a refusal. Of on: duration and count of records; of off: duration; of the end:

@@ -3,18 +3,17 @@
 // Long times hold if sign.bin in the current folder is a sign file that has them. A write that fails is passed over.
 #![tactic(auto)]
 
-use numbers::Numbers;
-use reading::Reading;
-use refusal::Refusal;
+use readings::SliceRead;
 use std::rt::Files;
-use token::Slices;
-use value::{Place, Value};
 
-// No Display here: place and value are other crates', and the line is the format's.
-fn print_slice(rt: &impl Print, p: Place, v: Value) {
-    let said = Numbers::from(v);
-    let _ = print!(rt; "{} {} {}", p.start, p.len, said.code);
-    for n in &said.n {
+// A slice with its value, or its refusal, which has no detail.
+fn print_slice(rt: &impl Print, r: &SliceRead) {
+    if 0 < r.number {
+        let _ = println!(rt; "refused {} {} {} 0", r.number, r.start, r.length);
+        return;
+    }
+    let _ = print!(rt; "{} {} {}", r.start, r.length, r.code);
+    for n in &r.n {
         let _ = print!(rt; " {n}");
     }
     let _ = println!(rt);
@@ -22,17 +21,14 @@ fn print_slice(rt: &impl Print, p: Place, v: Value) {
 
 // Prints every slice of a message, or why it is refused as a whole.
 fn print_all(rt: &impl Print, msg: &[u8], long: bool) {
-    for (at, _) in Slices::new(msg, 0) {
-        match reading::read(msg, at, long) {
-            Reading::Slice(p, v) => print_slice(rt, p, v),
-            Reading::End => break,
-            Reading::Refused(r) => {
-                signbin::print_refusal(rt, r);
-                if r.number < 5 {
-                    break;
-                }
+    let mut recs = [SliceRead::default(); readings::ROOM];
+    match readings::read_all(msg, long, &mut recs) {
+        Ok(count) => {
+            for r in recs.iter().take(usize::from(count)) {
+                print_slice(rt, r);
             }
         }
+        Err(r) => signbin::print_refusal(rt, r),
     }
     let _ = println!(rt; "end {}", msg.len());
 }

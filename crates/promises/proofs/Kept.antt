@@ -1,5 +1,6 @@
 -- The promises hold.
 use Rattle.token.proofs.Laws.{slices_joined}
+use Rattle.readings.proofs.Agrees.{reads_all}
 use Rattle.font.proofs.Counts.{counts}
 use Rattle.admit.specs.Admission.{denied}
 use Rattle.font.proofs.StandIns.{stands_in}
@@ -21,6 +22,7 @@ promises =
       demand_3 = demand3;
       bounds = bounded;
       whole_listing = whole_listing;
+      reads_all = reads_all;
       worked_boards = boards;
       sentences = sentenced;
       words = worded;

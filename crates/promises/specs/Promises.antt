@@ -1,10 +1,12 @@
 -- What is promised of the product, in one reading: each line is a theorem, for every sign file, every message and every lent slice. All of it speaks of
 -- `listing` and `after`, which by the contract of `list` (crates/listing/src/lib.rt) are the answer of the call that runs and the slice that it leaves; of the
--- whole listing in one call, `list_all` (crates/whole/src/lib.rt), it is said that it gives the same; the lines of requests of document 02, A1 and on, of
--- what they say.
-use Rattle.std.specs.Prelude.{ℕ, ◌<◌, ◌≡◌, List}
+-- whole listing in one call, `list_all` (crates/whole/src/lib.rt), it is said that it gives the same, and so of `read_all` (crates/readings/src/lib.rt) beside
+-- the reading call; the lines of requests of document 02, A1 and on, of what they say.
+use Rattle.std.specs.Prelude.{ℕ, ◌<◌, ◌≡◌, Bool, List}
 use Rattle.token.specs.Token.{joined, slices}
 use Rattle.refusal.specs.declared.Refusal.{Refusal}
+use Rattle.readings.specs.declared.SliceRead.{SliceRead}
+use Rattle.readings.specs.Each.{ReadsAll}
 use Rattle.sign.specs.Sign.{Character}
 use Rattle.font.specs.Counts.{Counts}
 use Rattle.admit.specs.Admission.{denied, admission}
@@ -38,6 +40,9 @@ pub record Promises : Type 0 where
   -- the whole listing in one call: its answers and records are those of the calls one by one, so that demand 3 speaks of them too; it needs at most 1,026
   -- answers and 2,048 records; a refusal is the first of the calls, and changes nothing
   pub whole_listing : (file msg : List ℕ) (answers : List Shown) (recs : List Span) → WholeListing file msg answers recs
+  -- all slices of a message in one call: "Each element equals the reading call at its start", there are as many as slices and at most 2,048; what is past
+  -- the count stays, and a refusal changes nothing
+  pub reads_all : (long : Bool) (msg : List ℕ) (lent : List SliceRead) → ReadsAll long msg lent
   -- document 01's worked boards, and those that catch other readings of its rules
   pub worked_boards : Boards
   -- A1, of a refusal whose "number has 8 bits, the others 16": its sentence has at most 96 bytes, is ASCII "ended by the only full stop", and "From the

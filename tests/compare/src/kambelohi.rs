@@ -28,6 +28,57 @@ pub fn read(msg: &[u8], offset: usize, long_times: bool) -> ReadAnswer {
     unsafe { kambelohi_read(msg.as_ptr(), msg.len(), offset, long_times) }
 }
 
+/// A slice of a message as numbers, as `include/kambelohi.h` has it
+#[repr(C)]
+#[derive(Clone, Copy, Debug, Default, Eq, PartialEq)]
+pub struct Reading {
+    pub start: u32,
+    pub length: u32,
+    pub number: u32,
+    pub code: u32,
+    pub n: [u32; 8],
+}
+
+/// An answer of the call that reads all slices
+#[repr(C)]
+#[derive(Clone, Copy, Debug, Default, Eq, PartialEq)]
+pub struct ReadAllAnswer {
+    pub kind: u16,
+    pub count: u16,
+    pub number: u16,
+    pub start: u16,
+    pub length: u16,
+    pub detail: u16,
+}
+
+unsafe extern "C" {
+    fn kambelohi_read_all(
+        msg: *const u8,
+        len: usize,
+        long_times: bool,
+        readings: *mut Reading,
+        reading_count: usize,
+    ) -> ReadAllAnswer;
+}
+
+/// Read all slices of a message, and say whether long times hold
+pub fn read_all(
+    msg: &[u8],
+    long_times: bool,
+    readings: &mut [Reading],
+) -> ReadAllAnswer {
+    // The call takes any bytes and slice.
+    unsafe {
+        kambelohi_read_all(
+            msg.as_ptr(),
+            msg.len(),
+            long_times,
+            readings.as_mut_ptr(),
+            readings.len(),
+        )
+    }
+}
+
 /// A span record, as `include/kambelohi.h` has it: kind, start, length, code,
 /// x, y, width, height, font, line, span, and the rectangle's x, y, width and
 /// height

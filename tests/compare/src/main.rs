@@ -3,10 +3,12 @@
 //!
 //! For each V line: every slice of the message by the real `next_slice` and
 //! `Value::try_from` against `kambelohi_read` at its start; every other offset
-//! against the rules for offsets. This without long times, and with them, but
-//! for a [pt] that the Rust refuses. For each T line, which needs the model's
-//! answer: the same with long times, each value against the model's, and against
-//! the Rust's unless a time is above 255. For each L line: every answer of the real
+//! against the rules for offsets; all slices by `kambelohi_read_all` on a
+//! patterned slice, against the same. This without long times, and with them,
+//! but for a [pt] that the Rust refuses, where `kambelohi_read` says what is
+//! wanted of all slices. For each T line, which needs the model's answer: the
+//! same with long times, each value against the model's, and against the Rust's
+//! unless a time is above 255. For each L line: every answer of the real
 //! `Pages` with its records against `kambelohi_list` on a patterned slice, and
 //! so the model's answers; `kambelohi_place` against that, with the counts of
 //! the records; all of them together against `kambelohi_list_all`. Of sign files
@@ -30,7 +32,7 @@ mod sentences;
 mod stops;
 mod whole;
 
-use kambelohi::{ReadAnswer, Span, read};
+use kambelohi::{ReadAllAnswer, ReadAnswer, Reading, Span, read, read_all};
 use kambelohi_oracle::{Item, values};
 use listings::{SignFile, is_page_time};
 use std::collections::BTreeMap;
@@ -163,6 +165,66 @@ fn compare_whole(
         counts.offsets += 1;
         expect(msg, offset, long, refused(number.into(), 0, 0))?;
     }
+    compare_slices(msg, long, Err(number.into()), counts.offsets)
+}
+
+/// The same of the call for all slices
+fn as_reading(answer: &ReadAnswer) -> Reading {
+    Reading {
+        start: answer.start,
+        length: answer.length,
+        number: answer.number,
+        code: answer.code,
+        n: answer.n,
+    }
+}
+
+/// A patterned reading
+fn pattern(i: usize, turn: usize) -> Reading {
+    let n = (i * 31 + turn * 7) as u32;
+    Reading {
+        start: n,
+        length: !n,
+        number: n ^ 0x5555,
+        code: n << 8,
+        n: [n, !n, n, !n, n, !n, n, !n],
+    }
+}
+
+/// Compare the call for all slices with what is wanted of it: the slices, or
+/// the number of a refusal; on a slice that is long enough and on one that is
+/// too short
+fn compare_slices(
+    msg: &[u8],
+    long: bool,
+    want: Result<&[Reading], u16>,
+    turn: usize,
+) -> Result<(), String> {
+    for lent in [2048 + turn % 3, 2047 - turn % 2048] {
+        let before: Vec<Reading> = (0..lent).map(|i| pattern(i, turn)).collect();
+        let mut after = before.clone();
+        let got = read_all(msg, long, &mut after);
+        let want = if lent < 2048 { Err(want.err().unwrap_or(4)) } else { want };
+        let (answer, slices) = match want {
+            Ok(all) => {
+                let count = all.len() as u16;
+                (ReadAllAnswer { kind: 1, count, ..Default::default() }, all)
+            }
+            Err(number) => {
+                (ReadAllAnswer { kind: 2, number, ..Default::default() }, &[][..])
+            }
+        };
+        let same = got == answer
+            && after.starts_with(slices)
+            && after[slices.len()..] == before[slices.len()..];
+        if !same {
+            return Err(format!(
+                "{lent} readings, long times {long}\nwant {answer:?} {slices:?}\n\
+                 here {got:?} {:?}",
+                &after[..slices.len().min(lent)]
+            ));
+        }
+    }
     Ok(())
 }
 
@@ -178,16 +240,24 @@ fn compare(msg: &[u8], counts: &mut Counts) -> Result<(), String> {
             return compare_whole(msg, true, r.number, counts);
         }
     };
+    let mut all = Vec::with_capacity(items.len());
+    let mut long = Vec::with_capacity(items.len());
     for item in &items {
         counts.slices += 1;
         counts.stops += usize::from(is_stop(item));
         let want = slice_answer(item);
         *counts.codes.entry((want.code, want.number)).or_default() += 1;
         expect(msg, item.start, false, want)?;
+        all.push(as_reading(&want));
         if !is_page_time(msg, item.start, item.length) || item.code != 0 {
             expect(msg, item.start, true, want)?;
+            long.push(as_reading(&want));
+        } else {
+            long.push(as_reading(&read(msg, item.start, true)));
         }
     }
+    compare_slices(msg, false, Ok(&all), counts.messages)?;
+    compare_slices(msg, true, Ok(&long), counts.messages)?;
     compare_offsets(msg, false, counts)?;
     compare_offsets(msg, true, counts)
 }
@@ -242,9 +312,11 @@ fn compare_long(
     if *head != items.len().to_string() || lines.len() != items.len() {
         return Err(no_answer());
     }
+    let mut all = Vec::with_capacity(items.len());
     for (item, line) in items.iter().zip(lines) {
         let want = model_slice(line).ok_or_else(no_answer)?;
         expect(msg, item.start, true, want).map_err(Fault::Differs)?;
+        all.push(as_reading(&want));
         let rust = slice_answer(item);
         if want == rust {
             counts.long.1 += 1;
@@ -255,6 +327,8 @@ fn compare_long(
             return Err(Fault::Differs(said));
         }
     }
+    compare_slices(msg, true, Ok(&all), counts.long.0)
+        .map_err(Fault::Differs)?;
     compare_offsets(msg, true, counts).map_err(Fault::Differs)
 }
 

@@ -1,0 +1,4 @@
+pub mod Within
+pub mod Going
+pub mod Between
+pub mod Agrees
