@@ -132,10 +132,11 @@ fn moving(m: MovingTextMode, d: MovingTextDirection, t: Movement) -> Numbers
     )
 }
 
-// The numbers of a value.
+// The numbers of a value. Inlined, as the way that makes a value is (parse, reading): through memory a call of short slices takes twice the time.
 impl From<Value> for Numbers {
     ghost from_gives = { λ v m. m ≡ numbers_of v };
 
+    #[inline(always)]
     fn from(v: Value) -> Numbers {
         match v {
             Value::ColorBackground(c) => color(1, c),

@@ -228,8 +228,10 @@ fn name_len(name: Name) -> usize
     }
 }
 
-// The value of a name with the bytes after it; long times may hold.
+// The value of a name with the bytes after it; long times may hold. Inlined, here and up to reading's `item_of`: a value that goes through memory takes
+// longer than most tags take to read (docs/PERFORMANCE.md).
 #[tactic(auto, unfolding(crate::specs::Parse::manufacturer_specific, crate::specs::Parse::manufacturer_specific_end))]
+#[inline(always)]
 fn by_name(name: Name, p: Rest, long: bool) -> Option<Value>
     ensures { result ≡ by_name long name p.entry.end p.entry.bytes.now }
 {
@@ -260,6 +262,7 @@ fn by_name(name: Name, p: Rest, long: bool) -> Option<Value>
 
 // A tag without its brackets, whose bytes end at a place of the message; long times may hold.
 #[tactic(auto, unfolding(crate::specs::Parse::tag_value))]
+#[inline(always)]
 pub fn parse_tag(tag: &[u8], end: usize, long: bool) -> Result<Value, SyntaxError>
     requires { (length tag.now ≤ end) × (end ≤ 65535) }
     ensures { result ≡ tag_value long end tag.now }

@@ -18,7 +18,7 @@ pub enum Reading {
     Refused(Refusal),
 }
 
-// A slice of a message, by its bytes and the place where it starts.
+// A slice of a message, by its bytes and the place where it starts. Inlined are the functions that a value goes through, as in parse.
 #[derive(Clone, Copy)]
 struct Slice<'a> {
     bytes: &'a [u8],
@@ -38,6 +38,7 @@ impl Slice<'_> {
 
     // From [ to ].
     #[tactic(auto, unfolding(crate::specs::Reading::tag_item))]
+    #[inline(always)]
     fn tag_item(self, long: bool) -> Result<Value, SyntaxError>
         ensures { result ≡ tag_item long self.entry.at self.entry.bytes.now }
     {
@@ -50,6 +51,7 @@ impl Slice<'_> {
     }
 
     #[tactic(auto, unfolding(crate::specs::Reading::text_item))]
+    #[inline(always)]
     fn text_item(self) -> Result<Value, SyntaxError>
         ensures { result ≡ text_item self.entry.at self.entry.bytes.now }
     {
@@ -62,6 +64,7 @@ impl Slice<'_> {
 
     // `Value::try_from`; long times may hold.
     #[tactic(auto, unfolding(crate::specs::Reading::item_of))]
+    #[inline(always)]
     fn item(self, long: bool) -> Result<Value, SyntaxError>
         ensures { result ≡ item_of long self.entry.at self.entry.bytes.now }
     {
@@ -95,6 +98,7 @@ impl Slice<'_> {
 }
 
 // The value of the slice s, which starts at a place of the message; long times may hold.
+#[inline(always)]
 pub fn item_of(at: usize, s: &[u8], long: bool) -> Result<Value, SyntaxError>
     requires { at + length s.now ≤ 65535 }
     ensures { result ≡ item_of long at s.now }
