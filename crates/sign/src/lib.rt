@@ -213,12 +213,13 @@ impl Records<'_> {
         ensures { result ≡ given_after self.entry.file.now self.entry.at c }
     {
         let Records { file, at: from } = self;
-        let at = past_option(file, from, 4);
-        let end = past_option(file, at, 5);
-        let fonts = Records { file, at: end };
-        fonts.read_fonts(Config {
-            capitals: from < at,
-            long_times: at < end,
+        let past_capitals = past_option(file, from, 4);
+        let past_times = past_option(file, past_capitals, 5);
+        let at = past_option(file, past_times, 6);
+        Records { file, at }.read_fonts(Config {
+            capitals: from < past_capitals,
+            long_times: past_capitals < past_times,
+            groups: past_times < at,
             ..c
         })
     }
