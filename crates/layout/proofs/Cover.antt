@@ -24,7 +24,7 @@ use Rattle.layout.specs.Types.{Item, place_of}
 use Rattle.layout.specs.Demand.{In, here, there, Role, text, hexadecimal, rectangle, page_just, new_page as page_role, other, role_of, role_in, Reads, rect_after, just_after, printed_by}
 use Rattle.layout.specs.declared.Step.{Step}
 use Rattle.layout.specs.declared.Step.TheVariants.{Go, Emit, Cut, Turn}
-use Rattle.layout.specs.Read.{refusal_at, surrogate, above0, with_just_line, with_just_page, with_char_spacing, with_font, font_step, rect_of, unit, fits, rect_fits, justified, go_if, line_step, value_step, item_step, step, scan, Event, pass, close, stop, whole, new_page, start, follow, read, opening, events}
+use Rattle.layout.specs.Read.{refusal_at, surrogate, above0, with_just_line, with_just_page, with_char_spacing, with_font, font_step, rect_of, unit, fits, rect_fits, justified, go_if, line_step, value_step, item_step, step, scan, Event, pass, close, stop, whole, new_page, start, follow, renumbered, read, opening, events}
 use Rattle.layout.proofs.PassLaws.{Grid}
 
 -- ---- one item
@@ -157,12 +157,14 @@ module _ (s : Config) (st : RenderState) (blank : Bool) (it : Item) where
   page_just_within j None e = refused 6 (omega arith)
   page_just_within j (Some n) e = (record { reads = tt; prints = refl; rect = refl; just = just_given j s.page_just n e }, refl)
 
-  line_within : (l : Option ℕ) (b : Bool) → ValueWithin s st it (NewLine l) (line_step (place_of it) st l b)
-  line_within l true = (
-    record { reads = tt; prints = refl; rect = refl; just = refl },
-    refl,
-    record { state = refl; start = refl; len = omega arith; spoken = λ q. omega arith },
-  )
+  line_within : (l : Option ℕ) (b : Bool) → ValueWithin s st it (NewLine l) (line_step s (place_of it) st l b)
+  line_within l true =
+      pick_all (ValueWithin s st it (NewLine l)) (s.groups && leb 255 st.span) (λ _. refused 8 (omega arith))
+      (λ _. (
+        record { reads = tt; prints = refl; rect = refl; just = refl },
+        refl,
+        record { state = refl; start = refl; len = omega arith; spoken = λ q. omega arith },
+      ))
   line_within l false = (record { reads = tt; prints = refl; rect = refl; just = refl }, refl)
 
   font_within : (f : Option (ℕ × Option ℕ)) → ValueWithin s st it (Font f) (Ok (Go (font_step s st f) blank))
@@ -219,6 +221,11 @@ module _ (s : Config) (st : RenderState) (blank : Bool) (it : Item) where
   unfolding step
   step_within h = said_within it.says h
 
+-- a state's span number is nothing to what is taken
+unnumbered : (s : Config) (acc : List Entry) (st : RenderState) {it : Item} {st' : RenderState} {es : List Entry} → Taken s (renumbered s acc st) it st' es
+    → Taken s st it st' es
+unnumbered s acc st t = record { reads = t.reads; prints = t.prints; rect = t.rect; just = t.just }
+
 pub whole_grid : (s : Config) → Grid s (whole s)
 whole_grid s = record { across = zero-mod _; down = zero-mod _ }
 
@@ -232,7 +239,7 @@ pub data ReadAs (s : Config) : List Item → RenderState → List Entry → List
   goes : {it : Item} {its : List Item} {st st' : RenderState} {acc : List Entry} {l : List Event} → Taken s st it st' [] → st'.rect ≡ st.rect
       → ReadAs s its st' acc l → ReadAs s (it ∷ its) st acc l
   emits : {it : Item} {its : List Item} {st st' : RenderState} {acc : List Entry} {e : Entry} {l : List Event} → Taken s st it st' (e ∷ [])
-      → st'.rect ≡ st.rect → SpanOf st it e → ReadAs s its st' (acc ++ (e ∷ [])) l → ReadAs s (it ∷ its) st acc l
+      → st'.rect ≡ st.rect → SpanOf (renumbered s acc st) it e → ReadAs s its st' (acc ++ (e ∷ [])) l → ReadAs s (it ∷ its) st acc l
   cuts : {it : Item} {its : List Item} {st st' : RenderState} {acc : List Entry} {l : List Event} → Taken s st it st' [] → rect_fits s st'.rect ≡ true
       → ReadAs s its st' [] l → ReadAs s (it ∷ its) st acc (pass st.rect acc ∷ l)
   turns : {it : Item} {its : List Item} {st : RenderState} {acc : List Entry} {a b : ℕ} {l : List Event} → Taken s st it (new_page s st) []
@@ -244,24 +251,25 @@ pub data ReadAs (s : Config) : List Item → RenderState → List Entry → List
 
 module _ (s : Config) (it : Item) (its : List Item) (k : ℕ → ℕ → RenderState → Bool → List Entry → List Event)
     (hyp : (a b : ℕ) (st : RenderState) (bl : Bool) (acc : List Entry) → ReadAs s its st acc (k a b st bl acc)) where
-  turn_as : (a b : ℕ) (st : RenderState) (acc : List Entry) (o : Option Refusal) → StepWithin s st it (Ok Turn) → (scan s a b its).fault ≡ o
-      → ReadAs s (it ∷ its) st acc (follow s a b st acc its k (Ok Turn))
-  turn_as a b st acc None f q = rw q (turns f.0 f.1 (hyp _ _ (new_page s st) true []))
-  turn_as a b st acc (Some r) f q = rw q (fails f.0 f.1 a b q)
+  turn_as : (a b : ℕ) (st : RenderState) (acc : List Entry) (o : Option Refusal) → Taken s st it (new_page s st) [] → role_in it.says ≡ page_role
+      → (scan s a b its).fault ≡ o → ReadAs s (it ∷ its) st acc (follow s a b st acc its k (Ok Turn))
+  turn_as a b st acc None f p q = rw q (turns f p (hyp _ _ (new_page s st) true []))
+  turn_as a b st acc (Some r) f p q = rw q (fails f p a b q)
 
-  follow_as : (a b : ℕ) (st : RenderState) (acc : List Entry) (t : Result Step Refusal) → StepWithin s st it t
+  follow_as : (a b : ℕ) (st : RenderState) (acc : List Entry) (t : Result Step Refusal) → StepWithin s (renumbered s acc st) it t
       → ReadAs s (it ∷ its) st acc (follow s a b st acc its k t)
   follow_as a b st acc (Err r) f = refuses f
-  follow_as a b st acc (Ok (Go st' bl)) f = goes f.0 f.1 (hyp a b st' bl acc)
-  follow_as a b st acc (Ok (Emit e st' bl)) f = emits f.0 f.1 f.2 (hyp a b st' bl (acc ++ (e ∷ [])))
-  follow_as a b st acc (Ok (Cut st')) f = cuts f.0 f.1 (hyp a b st' true [])
-  follow_as a b st acc (Ok Turn) f = turn_as a b st acc (scan s a b its).fault f refl
+  follow_as a b st acc (Ok (Go st' bl)) f = goes (unnumbered s acc st f.0) f.1 (hyp a b st' bl acc)
+  follow_as a b st acc (Ok (Emit e st' bl)) f = emits (unnumbered s acc st f.0) f.1 f.2 (hyp a b st' bl (acc ++ (e ∷ [])))
+  follow_as a b st acc (Ok (Cut st')) f = cuts (unnumbered s acc st f.0) f.1 (hyp a b st' true [])
+  follow_as a b st acc (Ok Turn) f = turn_as a b st acc (scan s a b its).fault (unnumbered s acc st f.0) f.1 refl
 
 pub read_as : (s : Config) (its : List Item) (a b : ℕ) (st : RenderState) (bl : Bool) (acc : List Entry) → Honest its
     → ReadAs s its st acc (read s its a b st bl acc)
 read_as s [] a b st bl acc h = ends
 read_as s (it ∷ its) a b st bl acc h =
-    follow_as s it its (read s its) (λ a b st bl acc. read_as s its a b st bl acc h.1) a b st acc (step s st bl it) (step_within s st bl it h.0)
+    follow_as s it its (read s its) (λ a b st bl acc. read_as s its a b st bl acc h.1) a b st acc
+    (step s (renumbered s acc st) bl it) (step_within s (renumbered s acc st) bl it h.0)
 
 -- the events of a message: its first page's scan fails, or it is read
 pub data EventsAs (s : Config) (its : List Item) : List Event → Type 0 where
@@ -329,7 +337,8 @@ module _ {s : Config} {it : Item} {its : List Item} {st st' : RenderState} where
         order = skip c.order;
       }
 
-  spoken : {acc l : List Entry} {e : Entry} → Taken s st it st' (e ∷ []) → SpanOf st it e → Covers its (acc ++ (e ∷ [])) l → Covers (it ∷ its) acc l
+  spoken : {acc l : List Entry} {e : Entry} → Taken s st it st' (e ∷ []) → SpanOf (renumbered s acc st) it e → Covers its (acc ++ (e ∷ [])) l
+      → Covers (it ∷ its) acc l
   spoken {acc = acc} {e = e} t o c =
       record {
         reads = all_read t c.reads;
