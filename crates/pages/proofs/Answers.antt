@@ -27,6 +27,7 @@ use Rattle.pages.specs.declared.PageDone.{PageDone}
 use Rattle.pages.specs.declared.Pages.{Pages}
 use Rattle.pages.specs.declared.PageShown.TheVariants.{On}
 use Rattle.pages.specs.Pages.{board_of, run, turned, page_told, PageInMessage, PageRendered, pages_at, state_after, first_of, todo, InMessage, weight, NextAsked, OnRead}
+use Rattle.pass.proofs.Laws.{default_justs}
 use Rattle.pages.proofs.Laws.{whole_inside}
 
 -- ---- an on page
@@ -131,4 +132,4 @@ unfolding pages events opening turned items items_from slices
 pages_todo s msg = refl
 
 pub first_in_law : (call : Call) → InMessage call (first_of call.table.config)
-first_in_law call = record { within = omega arith; inside = whole_inside call.table.config }
+first_in_law call = record { within = omega arith; inside = record { rect = whole_inside call.table.config; justs = default_justs call } }

@@ -1,17 +1,23 @@
 // Reading a pass: the values of a message up to [tr], [np] or the end, into rows of measured spans.
 #![tactic(auto)]
 
-ghost use Rattle.std.specs.Prelude.{◌≡◌, ◌+◌, ◌≤◌, length};
+ghost use Rattle.std.specs.Prelude.{◌≡◌, ◌+◌, ◌≤◌, ◌<◌, [], length, IfSome};
+ghost use Rattle.layout.specs.Types.{JustsOf};
 ghost use Rattle.meter.specs.Gauges.{WidthsOf};
+ghost use Rattle.pass.specs.Groups.{group_count, slot_of, renumbered_by, numbers_with, Numbered};
 ghost use Rattle.pass.specs.Pass.{step_at, start_at, Holds, Storable, Stored, PassAsked, PassRead};
 
 use font::FontWidths;
 use layout::{Entry, Rect, RenderState, Step};
 use meter::Call;
+use records::Config;
 use refusal::Refusal;
 use rows::Row;
 use token::Slices;
 use value::Place;
+
+// As many groups as a pass can have: 256 lines, with 3 page justifications and 3 line justifications each.
+const GROUPS: usize = 2304;
 
 // What ends a pass: [tr], [np] or the message's end. No Option: none of the three is missing, and the page goes on otherwise at each.
 #[derive(Clone, Copy)]
@@ -52,6 +58,46 @@ pub struct PassDone {
     pub how: How,
     pub rect: Rect,
     pub reached: Reached,
+}
+
+// Before the first span of a pass: the table of the groups' numbers, cleared only where they count.
+#[tactic(auto, using(crate::proofs::Groups::numbers_none))]
+fn numbers_for(c: Config) -> Option<[u8; GROUPS]>
+    ensures { Numbered c [] result }
+{
+    if c.groups { Some([0; GROUPS]) } else { None }
+}
+
+// The place of a state's group in the table of the groups' numbers.
+fn slot(st: RenderState) -> usize
+    requires { JustsOf st }
+    ensures { (result ≡ slot_of st) × (result < group_count) }
+{
+    let page = usize::from(st.just_page - 2);
+    let line = usize::from(st.just_line - 2);
+    (usize::from(st.line) * 3 + page) * 3 + line
+}
+
+// The state with the number that comes next in its group, where they count.
+fn renumber(numbers: &Option<[u8; GROUPS]>, st: RenderState) -> RenderState
+    requires { JustsOf st }
+    ensures { result ≡ renumbered_by numbers.now st }
+{
+    match numbers {
+        Some(numbers) => st.with_span(numbers[slot(st)]),
+        None => st,
+    }
+}
+
+// A span was read in the state: the next of its group has the number above.
+fn take_number(numbers: &mut Option<[u8; GROUPS]>, st: RenderState)
+    requires justs { JustsOf st }
+    requires few { IfSome numbers.old (λ _. st.span < 255) }
+    ensures { numbers.new ≡ numbers_with numbers.old st }
+{
+    if let Some(numbers) = numbers {
+        numbers[slot(st)] = st.span + 1;
+    }
 }
 
 // What the slice s, which starts at a place, does. The casts are proved; try_from would add an error that no call gives.
@@ -100,7 +146,6 @@ fn store<'a>(
 }
 
 // The pass from a place on. Its spans' rows stand first in the slice.
-#[tactic(auto, using(crate::proofs::Laws::pass_ways))]
 pub fn read_pass(
     call: &Call,
     from: usize,
@@ -113,9 +158,10 @@ pub fn read_pass(
     let mut p = Reached::start(from, start);
     let mut blank = true;
     let mut held: Option<FontWidths<256>> = None;
+    let mut numbers = numbers_for(call.table.config);
     let mut how = How::End;
     for (at, s) in Slices::new(call.msg, from) {
-        let step = step_at(call, at, s, p.state, blank)?;
+        let step = step_at(call, at, s, renumber(&numbers, p.state), blank)?;
         p.at = at + s.len();
         match step {
             Step::Go(next, b) => {
@@ -123,6 +169,7 @@ pub fn read_pass(
                 blank = b;
             }
             Step::Emit(e, next, b) => {
+                take_number(&mut numbers, e.state);
                 p.looked += store(call, e, &mut held, rows, p.count);
                 p.count += 1;
                 p.state = next;
