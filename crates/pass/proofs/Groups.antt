@@ -9,7 +9,7 @@ use lib.ListN.{get_or, set, replicate, length-replicate, length-set}
 use lib.Seq.{get_or-set_same, get_or-set_other}
 use borrow.Author.Tests.{eq-eqb}
 use Rattle.base.specs.Pick.{pick}
-use Rattle.std.specs.Prelude.{Option, Some, None}
+use Rattle.std.proofs.Common.{◌⊎◌, inl, inr}
 use Rattle.records.specs.declared.Config.{Config}
 use Rattle.layout.specs.declared.RenderState.{RenderState}
 use Rattle.layout.specs.declared.Entry.{Entry}
@@ -17,7 +17,7 @@ use Rattle.layout.specs.Types.{JustsOf}
 use Rattle.layout.specs.Read.{in_group, group_number, renumbered}
 use Rattle.layout.proofs.PassLaws.{InOne, in_one}
 use Rattle.layout.proofs.Groups.{number_snoc}
-use Rattle.pass.specs.Groups.{group_count, slot_of, renumbered_by, numbers_with, NumbersAfter, Numbered}
+use Rattle.pass.specs.Groups.{group_count, slot_of, Slotted, renumbered_by, numbers_with, NumbersAfter, Numbered}
 
 zeros : (n i : ℕ) → ◌≡◌ {A = ℕ} (get_or (replicate n 0) i 0) 0
 zeros zero i = refl
@@ -65,12 +65,19 @@ module _ (es : List Entry) (l : List ℕ) (z : NumbersAfter es l) (e : Entry) (j
       }
 
 -- where the numbers count, the table tells the state's; else there is none
-module _ (c : Config) (es : List Entry) where
-  pub renumbers : (o : Option (List ℕ)) → Numbered c es o → (st : RenderState) → JustsOf st → renumbered_by o st ≡ renumbered c es st
-  renumbers None z st j = rw z
-  renumbers (Some l) z st j = rw (z.0, z.1.tells st j)
+module _ (c : Config) {es : List Entry} {l : List ℕ} where
+  pub slotted : Numbered c es l → (st : RenderState) → JustsOf st → Slotted l st
+  slotted (inl n) st j = record { justs = j; room = inl (rw n.1 refl) }
+  slotted (inr n) st j = record { justs = j; room = inr n.1.sized }
 
-  pub numbers_on : (o : Option (List ℕ)) → Numbered c es o → (e : Entry) → JustsOf e.state → e.state.line < 256
-      → Numbered c (es ++ (e ∷ [])) (numbers_with o e.state)
-  numbers_on None z e j h = z
-  numbers_on (Some l) z e j h = (z.0, numbers_more es l z.1 e j h)
+  pub few_left : Numbered c es l → {n : ℕ} → (c.groups ≡ true → n < 255) → l ≡ [] ⊎ n < 255
+  few_left (inl n) f = inl n.1
+  few_left (inr n) f = inr (f n.0)
+
+  pub renumbers : Numbered c es l → (st : RenderState) → JustsOf st → renumbered_by l st ≡ renumbered c es st
+  renumbers (inl n) st j = rw (n.0, n.1) refl
+  renumbers (inr n) st j = rw (n.0, n.1.sized, n.1.tells st j) refl
+
+  pub numbers_on : Numbered c es l → (e : Entry) → JustsOf e.state → e.state.line < 256 → Numbered c (es ++ (e ∷ [])) (numbers_with l e.state)
+  numbers_on (inl n) e j h = inl (n.0, rw n.1 refl)
+  numbers_on (inr n) e j h = inr (n.0, rw n.1.sized (numbers_more es l n.1 e j h))

@@ -1,7 +1,7 @@
 -- The ways on and out of a pass.
 use Rattle.std.proofs.lemmas.List.Sums.{sum_by-cons}
 use Rattle.std.proofs.lemmas.List.{map-append}
-use Rattle.std.specs.Prelude.{sum_by, IfSome, Option, Some, None, Result, Ok, Err}
+use Rattle.std.specs.Prelude.{sum_by, ◌⊎◌, Option, Some, None, Result, Ok, Err}
 use Rattle.std.proofs.lemmas.Bool.{eqb-true}
 use Prim.Native.Nat.{ℕ, ◌+◌, ◌%◌, ◌≤◌, ◌<◌}
 use mathlib.Core.Path.{◌≡◌, refl, sym, ◌∙◌, ap, subst}
@@ -49,9 +49,9 @@ use Rattle.pass.specs.declared.How.TheVariants.{Cut as ByCut, Turn as ByTurn, En
 use Rattle.pass.specs.declared.PassDone.{PassDone}
 use Rattle.pass.specs.declared.Reached.{Reached}
 use Rattle.pass.specs.Pass.{Ending, ended, entries_by, entries_after, ending_by, ending_after, step_at, start_at, Inside, InSign, tag_bytes, items_in, entries_from, ending_from, row_in, looked_in, Holds, Storable, Stored, PassAsked, SpansRead, PassRead}
-use Rattle.pass.specs.Groups.{renumbered_by, numbers_with, Numbered}
+use Rattle.pass.specs.Groups.{Slotted, renumbered_by, numbers_with, Numbered}
 use Rattle.pass.proofs.Items.{spoken_narrow}
-use Rattle.pass.proofs.Groups.{renumbers, numbers_on}
+use Rattle.pass.proofs.Groups.{slotted, few_left, renumbers, numbers_on}
 
 -- ---- a rectangle inside the sign
 
@@ -124,7 +124,7 @@ first_slice at l a s xs e =
 
 -- where the loop stands: first is the state it began with, rows₀ the rows, and the slices are left; so_far are the spans read
 pub record Stands (call : Call) (from : ℕ) (first : RenderState) (rows₀ rows : List Row) (left : List Slice)
-    (p : Reached) (blank : Bool) (held : Option (FontWidths 256)) (numbers : Option (List ℕ)) : Type 0 where
+    (p : Reached) (blank : Bool) (held : Option (FontWidths 256)) (numbers : List ℕ) : Type 0 where
   pub counted : from + p.count ≤ p.at
   pub few : from + p.looked ≤ p.at
   pub within : p.at ≤ length call.msg.now
@@ -144,7 +144,7 @@ pub record Stands (call : Call) (from : ℕ) (first : RenderState) (rows₀ rows
   pub slices : left ≡ slices_from p.at call.msg.now
 
 module _ {call : Call} {from : ℕ} {first : RenderState} {rows₀ rows : List Row} {left : List Slice}
-    {p : Reached} {blank : Bool} {held : Option (FontWidths 256)} {numbers : Option (List ℕ)}
+    {p : Reached} {blank : Bool} {held : Option (FontWidths 256)} {numbers : List ℕ}
     (z : Stands call from first rows₀ rows left p blank held numbers) where
   abbrev c : Config
   c = call.table.config
@@ -234,8 +234,8 @@ module _ {call : Call} {from : ℕ} {first : RenderState} {rows₀ rows : List R
     pub pass_past : Val.Fits w64 (a + length s)
     pass_past = omega (arith, leads.within, call.small)
 
-  pub pass_justs : JustsOf st
-  pass_justs = z.justs
+  pub pass_renumbers : Slotted numbers st
+  pass_renumbers = slotted c z.numbered st z.justs
 
   -- v is the state that it is read in, t what it does
   module _ {a : ℕ} {s : List ℕ} {xs : List Slice} (y : left ≡ record { start = a; bytes = s } ∷ xs)
@@ -264,13 +264,16 @@ module _ {call : Call} {from : ℕ} {first : RenderState} {rows₀ rows : List R
     abbrev now : RenderState
     now = renumbered c acc st
 
+    v_now : v ≡ now
+    v_now = n ∙ renumbers c z.numbered st z.justs
+
     stepped : step c now blank (item_at c slice) ≡ t
     unfolding step_at slice
-    stepped = ap (λ (x : RenderState). step c x blank (item_at c slice)) (sym (n ∙ renumbers c acc numbers z.numbered st z.justs)) ∙ sym g
+    stepped = ap (λ (x : RenderState). step c x blank (item_at c slice)) (sym v_now) ∙ sym g
 
     -- the ending and the entries from here on, by a step
     abbrev ending : Result Step Refusal → Ending
-    ending = ending_by st (items_in call r) (ending_after c (items_in call r)) acc
+    ending = ending_by now (items_in call r) (ending_after c (items_in call r)) acc
 
     abbrev entries : Result Step Refusal → List Entry
     entries = entries_by (entries_after c (items_in call r)) acc
@@ -332,10 +335,12 @@ module _ {call : Call} {from : ℕ} {first : RenderState} {rows₀ rows : List R
         let i : InSign c st' = record { rect = fits_inside c st'.rect (lies_so q).1; justs = (lies_so q).0.justs (default_justs call) z.justs } in
         finish ByCut (next st') (ends_so q) (closed ByCut st' (spans_so q) (sum_so q) (omega arith) i)
 
-    pub pass_turn : {u : Step} → t ≡ Ok u → u ≡ Turn → Ends (Ok (done ByTurn (next st)))
+    pub pass_turn : {u : Step} → t ≡ Ok u → u ≡ Turn → Ends (Ok (done ByTurn (next v)))
     pass_turn k e =
         let q : t ≡ Ok Turn = goes k e in
-        finish ByTurn (next st) (ends_so q) (closed ByTurn st (spans_so q) (sum_so q) (omega arith) on_sign)
+        let i : InSign c now = record { rect = on_sign.rect; justs = on_sign.justs } in
+        subst (λ (x : RenderState). Ends (Ok (done ByTurn (next x)))) (sym v_now)
+        (finish ByTurn (next now) (ends_so q) (closed ByTurn now (spans_so q) (sum_so q) (omega arith) i))
 
     pub pass_go : {u : Step} {st' : RenderState} {b : Bool} → t ≡ Ok u → u ≡ Go st' b → Stands call from first rows₀ rows xs (next st') b held numbers
     pass_go {st' = st'} {b} k e =
@@ -389,15 +394,14 @@ module _ {call : Call} {from : ℕ} {first : RenderState} {rows₀ rows : List R
       pass_stores = record { reads = pass_reads; holds = z.holds; room = omega (arith, here.start, here.more, here.within) }
 
       -- its state has a place in the table, and its number counts
-      pub pass_takes : JustsOf x.state
-      pass_takes = rw spoke.2.state z.justs
+      x_justs : JustsOf x.state
+      x_justs = rw spoke.2.state z.justs
 
-      pub pass_few : IfSome numbers (λ _. x.state.span < 255)
-      pass_few = few_by numbers z.numbered
-        where
-          few_by : (o : Option (List ℕ)) → Numbered c acc o → IfSome o (λ _. x.state.span < 255)
-          few_by None k = tt
-          few_by (Some l) k = subst (λ (o : RenderState). o.span < 255) (sym spoke.2.state) (spoke.3 k.0)
+      pub pass_takes : Slotted numbers x.state
+      pass_takes = slotted c z.numbered x.state x_justs
+
+      pub pass_few : numbers ≡ [] ⊎ x.state.span < 255
+      pass_few = few_left c z.numbered (λ k. subst (λ (o : RenderState). o.span < 255) (sym spoke.2.state) (spoke.3 k))
 
       -- the spans from here on
       abbrev later : List Entry
@@ -412,7 +416,7 @@ module _ {call : Call} {from : ℕ} {first : RenderState} {rows₀ rows : List R
       pub pass_adds : {held' : Option (FontWidths 256)} {rows' : List Row} {y : ℕ} → Stored call x rows p.count held' rows' y → Val.Fits w64 (p.looked + y)
       pass_adds w = omega (arith, looked_here w, z.few, more, past, call.small)
 
-      pub pass_emit : {numbers' : Option (List ℕ)} {held' : Option (FontWidths 256)} {rows' : List Row} {y : ℕ} → x.state.line < 256
+      pub pass_emit : {numbers' : List ℕ} {held' : Option (FontWidths 256)} {rows' : List Row} {y : ℕ} → x.state.line < 256
           → numbers' ≡ numbers_with numbers x.state → Stored call x rows p.count held' rows' y
           → Stands call from first rows₀ rows' xs (record { at = r; count = p.count + 1; looked = p.looked + y; state = st' }) b held' numbers'
       pass_emit {held' = held'} {y = y} h o w =
@@ -430,7 +434,7 @@ module _ {call : Call} {from : ℕ} {first : RenderState} {rows₀ rows : List R
                 ∙ rows_put rows p.count (f x) pass_stores.room
                 ∙ ap (λ (y : List Row). y ++ (f x ∷ [])) z.stored
                 ∙ sym (map-append f acc (x ∷ []));
-            numbered = rw o (numbers_on c acc numbers z.numbered x pass_takes h);
+            numbered = rw o (numbers_on c z.numbered x x_justs h);
             ending = ends_so q;
             entries = append_assoc acc (x ∷ []) later ∙ spans_so q;
             sum = omega (arith, w.looked, sum_by-cons (looked_in call) x later, sum_so q);
@@ -441,7 +445,7 @@ module _ {call : Call} {from : ℕ} {first : RenderState} {rows₀ rows : List R
 module _ {call : Call} {from : ℕ} {first : RenderState} {rows : List Row}
     (asked : PassAsked call from first rows) where
   -- where the loop begins
-  pub pass_start : {q : Reached} {held : Option (FontWidths 256)} {numbers : Option (List ℕ)} {left : List Slice} → q ≡ start_at from first
+  pub pass_start : {q : Reached} {held : Option (FontWidths 256)} {numbers : List ℕ} {left : List Slice} → q ≡ start_at from first
       → held ≡ None → Numbered call.table.config [] numbers → left ≡ slices_from from call.msg.now → Stands call from first rows rows left q true held numbers
   pass_start {held = held} {numbers} {left} d e n k =
       subst (λ (q : Reached). Stands call from first rows rows left q true held numbers) (sym d)

@@ -20,7 +20,7 @@ module _ (c : Config) (a b : ℕ) where
       → ((st' : RenderState) (bl : Bool) (l : List Entry)
       → read c its a b st' bl l ≡ events_by c a b (l ++ entries_after c its st' bl l) (ending_after c its st' bl l))
       → follow c a b st acc its (read c its) t
-      ≡ events_by c a b (acc ++ entries_by (entries_after c its) acc t) (ending_by st its (ending_after c its) acc t)
+      ≡ events_by c a b (acc ++ entries_by (entries_after c its) acc t) (ending_by (renumbered c acc st) its (ending_after c its) acc t)
   follow_pass st acc its (Err r) h = refl
   follow_pass st acc its (Ok (Go st' bl)) h = h st' bl acc
   follow_pass st acc its (Ok (Emit e st' bl)) h =

@@ -53,7 +53,8 @@ ending_by st its next acc (Ok Turn) = ended ByTurn st.rect st its
 -- how it ends
 abbrev pub ending_after : Config → List Item → RenderState → Bool → List Entry → Ending
 ending_after c [] st blank acc = ended ByEnd st.rect st []
-ending_after c (it ∷ its) st blank acc = ending_by st its (ending_after c its) acc (step c (renumbered c acc st) blank it)
+ending_after c (it ∷ its) st blank acc =
+    ending_by (renumbered c acc st) its (ending_after c its) acc (step c (renumbered c acc st) blank it)
 
 abbrev pub ending_of : Config → List Item → RenderState → Bool → Ending
 ending_of c its st blank = ending_after c its st blank []

@@ -1,16 +1,15 @@
 // Reading a pass: the values of a message up to [tr], [np] or the end, into rows of measured spans.
 #![tactic(auto)]
 
-ghost use Rattle.std.specs.Prelude.{◌≡◌, ◌+◌, ◌≤◌, ◌<◌, [], length, IfSome};
+ghost use Rattle.std.specs.Prelude.{◌≡◌, ◌+◌, ◌≤◌, ◌<◌, ◌⊎◌, [], length};
 ghost use Rattle.layout.specs.Types.{JustsOf};
 ghost use Rattle.meter.specs.Gauges.{WidthsOf};
-ghost use Rattle.pass.specs.Groups.{group_count, slot_of, renumbered_by, numbers_with, Numbered};
+ghost use Rattle.pass.specs.Groups.{group_count, slot_of, Slotted, renumbered_by, numbers_with, Numbered};
 ghost use Rattle.pass.specs.Pass.{step_at, start_at, Holds, Storable, Stored, PassAsked, PassRead};
 
 use font::FontWidths;
 use layout::{Entry, Rect, RenderState, Step};
 use meter::Call;
-use records::Config;
 use refusal::Refusal;
 use rows::Row;
 use token::Slices;
@@ -60,14 +59,6 @@ pub struct PassDone {
     pub reached: Reached,
 }
 
-// Before the first span of a pass: the table of the groups' numbers, cleared only where they count.
-#[tactic(auto, using(crate::proofs::Groups::numbers_none))]
-fn numbers_for(c: Config) -> Option<[u8; GROUPS]>
-    ensures { Numbered c [] result }
-{
-    if c.groups { Some([0; GROUPS]) } else { None }
-}
-
 // The place of a state's group in the table of the groups' numbers.
 fn slot(st: RenderState) -> usize
     requires { JustsOf st }
@@ -78,24 +69,23 @@ fn slot(st: RenderState) -> usize
     (usize::from(st.line) * 3 + page) * 3 + line
 }
 
-// The state with the number that comes next in its group, where they count.
-fn renumber(numbers: &Option<[u8; GROUPS]>, st: RenderState) -> RenderState
-    requires { JustsOf st }
-    ensures { result ≡ renumbered_by numbers.now st }
+// The state gets the number that comes next in its group, where there is a table of them.
+fn renumber(numbers: &[u8], st: &mut RenderState)
+    requires { Slotted numbers.now st.old }
+    ensures { st.new ≡ renumbered_by numbers.now st.old }
 {
-    match numbers {
-        Some(numbers) => st.with_span(numbers[slot(st)]),
-        None => st,
+    if !numbers.is_empty() {
+        st.span = numbers[slot(*st)];
     }
 }
 
 // A span was read in the state: the next of its group has the number above.
-fn take_number(numbers: &mut Option<[u8; GROUPS]>, st: RenderState)
-    requires justs { JustsOf st }
-    requires few { IfSome numbers.old (λ _. st.span < 255) }
+fn take_number(numbers: &mut [u8], st: RenderState)
+    requires slotted { Slotted numbers.old st }
+    requires few { numbers.old ≡ [] ⊎ st.span < 255 }
     ensures { numbers.new ≡ numbers_with numbers.old st }
 {
-    if let Some(numbers) = numbers {
+    if !numbers.is_empty() {
         numbers[slot(st)] = st.span + 1;
     }
 }
@@ -145,23 +135,26 @@ fn store<'a>(
     looked
 }
 
-// The pass from a place on. Its spans' rows stand first in the slice.
-pub fn read_pass(
+// The slices of a pass from a place on, with a table of its groups' numbers, or an empty one where they do not count. No const parameter:
+// with two copies of the loop what it calls is no longer part of it, and a span takes a tenth longer.
+fn read_slices(
     call: &Call,
     from: usize,
     start: RenderState,
     rows: &mut [Row],
+    numbers: &mut [u8],
 ) -> Result<PassDone, Refusal>
-    requires { PassAsked call.now from start rows.old }
+    requires asked { PassAsked call.now from start rows.old }
+    requires none_yet { Numbered call.now.table.config [] numbers.old }
     ensures { PassRead call.now from start rows.old rows.new result }
 {
     let mut p = Reached::start(from, start);
     let mut blank = true;
     let mut held: Option<FontWidths<256>> = None;
-    let mut numbers = numbers_for(call.table.config);
     let mut how = How::End;
     for (at, s) in Slices::new(call.msg, from) {
-        let step = step_at(call, at, s, renumber(&numbers, p.state), blank)?;
+        renumber(numbers, &mut p.state);
+        let step = step_at(call, at, s, p.state, blank)?;
         p.at = at + s.len();
         match step {
             Step::Go(next, b) => {
@@ -169,7 +162,7 @@ pub fn read_pass(
                 blank = b;
             }
             Step::Emit(e, next, b) => {
-                take_number(&mut numbers, e.state);
+                take_number(numbers, e.state);
                 p.looked += store(call, e, &mut held, rows, p.count);
                 p.count += 1;
                 p.state = next;
@@ -191,4 +184,22 @@ pub fn read_pass(
         rect: start.rect,
         reached: p,
     })
+}
+
+// The pass from a place on. Its spans' rows stand first in the slice. A table is cleared only where the groups' numbers count.
+#[tactic(auto, using(crate::proofs::Groups::numbers_none))]
+pub fn read_pass(
+    call: &Call,
+    from: usize,
+    start: RenderState,
+    rows: &mut [Row],
+) -> Result<PassDone, Refusal>
+    requires { PassAsked call.now from start rows.old }
+    ensures { PassRead call.now from start rows.old rows.new result }
+{
+    if !call.table.config.groups {
+        return read_slices(call, from, start, rows, &mut []);
+    }
+    let mut numbers = [0; GROUPS];
+    read_slices(call, from, start, rows, &mut numbers)
 }

@@ -1,15 +1,15 @@
-use Rattle.pass.proofs.Laws.{pass_start, pass_justs, pass_asks, pass_past, pass_refuse, pass_end, pass_cut, pass_turn, pass_go, pass_takes, pass_few, pass_stores, pass_adds, pass_emit}
+use Rattle.pass.proofs.Laws.{pass_start, pass_renumbers, pass_asks, pass_past, pass_refuse, pass_end, pass_cut, pass_turn, pass_go, pass_takes, pass_few, pass_stores, pass_adds, pass_emit}
 use native.Mathlib.Omega.{arith}
 use mathlib.Core.Path.{refl}
 use Rattle.std.proofs.lemmas.Result.{err_from_is_err_and}
-use Rattle.pass.proofs.read_pass.Goals as goal
-use Rattle.pass.proofs.read_pass.Goals.{in-None, in-Some+in_ok-step+in-Cut, in-Some+in_ok-step+in-Turn}
+use Rattle.pass.proofs.read_slices.Goals as goal
+use Rattle.pass.proofs.read_slices.Goals.{in-None, in-Some+in_ok-step+in-Cut, in-Some+in_ok-step+in-Turn}
 
 pub loop-at-init : goal.loop-at-init
-loop-at-init c = (tt, tt, pass_start c.requires c.start-p.ensures refl c.numbers_for-numbers.ensures cc, refl)
+loop-at-init c = (tt, tt, pass_start c.requires.asked c.start-p.ensures refl c.requires.none_yet cc, refl)
 
 pub renumber-requires : goal.renumber-requires
-renumber-requires c = pass_justs c.loop-at.invariant.2
+renumber-requires c = pass_renumbers c.loop-at.invariant.2
 
 pub step_at-requires : goal.step_at-requires
 step_at-requires c = pass_asks c.loop-at.invariant.2 c.in-Some.ensures.steps
@@ -26,8 +26,8 @@ pub loop-at-preserved-in-Go : goal.loop-at-preserved-in-Go
 loop-at-preserved-in-Go c =
     (tt, tt, pass_go c.loop-at.invariant.2 c.in-Some.ensures.steps c.renumber.ensures c.step_at.ensures c.in_ok-step.was c.in-Go.is, c.loop-at.invariant.3)
 
-pub take_number-requires-clause-justs : goal.take_number-requires-clause-justs
-take_number-requires-clause-justs c =
+pub take_number-requires-clause-slotted : goal.take_number-requires-clause-slotted
+take_number-requires-clause-slotted c =
     pass_takes c.loop-at.invariant.2 c.in-Some.ensures.steps c.renumber.ensures c.step_at.ensures c.in_ok-step.was c.in-Emit.is
 
 pub take_number-requires-clause-few : goal.take_number-requires-clause-few

@@ -2,7 +2,7 @@ use mathlib.Core.Path.{◌≡◌}
 use Rattle.token.specs.Token.{slices_from}
 use Rattle.pass.specs.declared.How.TheVariants.{End}
 use Rattle.pass.proofs.Laws.{Stands}
-use Rattle.pass.proofs.read_pass.Given as goal
+use Rattle.pass.proofs.read_slices.Given as goal
 
 abbrev pub invariant-loop-at : goal.invariant-loop-at
 invariant-loop-at l =
