@@ -254,7 +254,8 @@ module _ (s : Config) (st : RenderState) (blank : Bool) (it : Item) where
       ))
       (λ _. refused 8 (omega arith))
   value_within (TextRectangle r) h =
-      pick_all (ValueWithin s st it (TextRectangle r)) (rect_fits s (rect_of s r)) (λ q. (record { reads = tt; prints = refl; rect = refl; just = refl; justs = λ d h. h }, q))
+      pick_all (ValueWithin s st it (TextRectangle r)) (rect_fits s (rect_of s r))
+      (λ q. (record { reads = tt; prints = refl; rect = refl; just = refl; justs = λ d h. h }, q))
       (λ _. refused 6 (omega arith))
 
   said_within : (x : Result Value SyntaxError) → Within it.start it.len x

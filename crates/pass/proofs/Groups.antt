@@ -28,7 +28,7 @@ zeros (suc n) (suc i) = zeros n i
 pub numbers_none : NumbersAfter [] (replicate group_count 0)
 numbers_none = record { sized = length-replicate {A = ℕ} group_count 0; tells = λ st j. zeros group_count (slot_of st) }
 
-pub slot_less : (st : RenderState) → JustsOf st → st.line < 256 → slot_of st < group_count
+slot_less : (st : RenderState) → JustsOf st → st.line < 256 → slot_of st < group_count
 slot_less st j h = omega (arith, j.page_from, j.page_to, j.line_from, j.line_to)
 
 -- groups have places of their own
