@@ -13,7 +13,7 @@ use Rattle.layout.specs.declared.Rect.{Rect}
 use Rattle.layout.specs.declared.Entry.{Entry}
 use Rattle.layout.specs.Types.{Meter}
 use Rattle.layout.specs.Read.{unit}
-use Rattle.layout.specs.Demand.{In, here, there, Next, first, later, From, Rises, spans}
+use Rattle.layout.specs.Demand.{In, here, there, Next, first, later, Before, from_here, from_there, From, Rises, spans}
 use Rattle.layout.specs.Placing.{trunc, due, gap, sum_before, sum_after, place_x, Line, add_line, line_of, lines, above, baseline}
 
 -- ---- truncation to the character grid
@@ -167,3 +167,11 @@ next_place false false cw r b₁ a₁ b₂ a₂ w d c p q f = omega arith
 pub next_x : (j cw : ℕ) (r : Rect) (b₁ a₁ b₂ a₂ w d : ℕ) → (j ≡ 3 → cw ≤ 1) → b₂ ≡ b₁ + (w + d) → b₁ + a₁ ≡ b₂ + a₂ → b₁ + a₁ ≤ r.width
     → place_x j cw r b₂ a₂ ≡ place_x j cw r b₁ a₁ + w + d
 next_x j cw r b₁ a₁ b₂ a₂ w d c p q f = next_place (eqb j 2) (eqb j 3) cw r b₁ a₁ b₂ a₂ w d (λ e. c (eqb-true j 3 e)) p q f
+
+-- ---- any two
+
+-- if each of a list keeps clear of the next, each keeps clear of all after it; x and w: where one stands, and how wide it is
+pub before_clear : (x w : Entry → ℕ) {a b : Entry} {l : List Entry} → ((p q : Entry) → Next p q l → x p + w p ≤ x q) → Before a b l → x a + w a ≤ x b
+before_clear x w h (from_here {a = a} (here {a = b})) = h a b first
+before_clear x w h (from_here {a = a} (there {b = c} i)) = omega (arith, h a c first, before_clear x w (λ p q n. h p q (later n)) (from_here {a = c} i))
+before_clear x w h (from_there i) = before_clear x w (λ p q n. h p q (later n)) i

@@ -2,6 +2,7 @@ pub mod Geometry
 pub mod PassLaws
 pub mod Cover
 pub mod RectLaws
+pub mod Groups
 pub mod Tags
 pub mod Times
 pub mod Items

@@ -22,13 +22,14 @@ use Rattle.layout.specs.Types.{Item, item_at, items, Board}
 use Rattle.font.specs.Table.{font_numbered}
 use Rattle.font.specs.Measure.{Measure}
 use Rattle.layout.specs.Fonts.{version_fault, missing, width_of, measure_in, char_fault_after, fault_in, width_in, height_in, meter_of, board_of}
-use Rattle.layout.specs.Placing.{keep, select, same, first_fault, fault_at, span_fault, pass_fault, pass_records, record_of}
+use Rattle.layout.specs.Placing.{same, first_fault, fault_at, span_fault, pass_fault, pass_records, record_of, group}
 use Rattle.layout.specs.declared.Scan.{Scan}
 use Rattle.layout.specs.Read.{Event, pass, close, stop, whole, opening, events}
 use Rattle.layout.specs.Listing.{Page, on, off, refused, stop_at, offs, pass_stop, walk, pages}
-use Rattle.layout.specs.Demand.{Reads, rect_after, just_after, at_place, rect_at_place, just_at_place, Across, Down, In, here, there, From, Rises, printed_records, printed, placed, Tells, Measured, Divides, Stands}
+use Rattle.layout.specs.Demand.{Reads, rect_after, just_after, at_place, rect_at_place, just_at_place, Across, Down, In, here, there, From, Rises, printed_records, printed, placed, Tells, Measured, Divides, spans, Stands}
 use Rattle.layout.proofs.Geometry.{next_left, from_rises}
-use Rattle.layout.proofs.PassLaws.{Grid, Even, or_none, in_select, same_refl, across, down, spacing}
+use Rattle.layout.proofs.PassLaws.{Grid, Even, or_none, in_select, same_refl, of_select, across, down, spacing, clear}
+use Rattle.layout.proofs.Groups.{InOrder, rises, read_in_order}
 use Rattle.layout.proofs.RectLaws.{Seen, read_known, rises_low}
 use Rattle.layout.proofs.Cover.{Runs, entries, printed_entries, Part, none_of, skip, both, starts, item_starts, Covers, EachPass, EventsAs, refused_at_once, begun, events_as, read_covers, read_grid, whole_grid}
 use Rattle.layout.proofs.Items.{items_honest, slices_read, items_printed, items_rise}
@@ -186,15 +187,6 @@ pub first_none : {A : Type 0} {B : Type 0} (f : A → Option B) {e : A} {l : Lis
 first_none f here q = (or_none _ _ q).0
 first_none f (there i) q = first_none f i (or_none _ _ q).1
 
-in_kept : {A : Type 0} (b : Bool) (c : A) {e : A} {l : List A} {u : List A} → (In e l → In e u) → In e (keep b c l) → In e (c ∷ u)
-in_kept true c k here = here
-in_kept true c k (there i) = there (k i)
-in_kept false c k i = there (k i)
-
-of_select : {A : Type 0} (f : A → Bool) {e : A} (l : List A) → In e (select f l) → In e l
-of_select f (c ∷ l) i = in_kept (f c) c (λ j. of_select f l j) i
-of_select {A = A} f {e = e} [] i = elim i [ ]
-
 -- a span's font is there, and measures its text
 measure_none : (m : Measure) → missing m ≡ None → m ≡ Ok (width_of m)
 measure_none (Ok w) q = refl
@@ -267,9 +259,11 @@ module _ (c : Config) (fs : List Font) (msg : List ℕ) where
   abbrev Known : Rect → List Entry → Type 0
   Known r es = (e : Entry) → In e es → Seen c (rect_at_place c msg) (just_at_place c msg) r e
 
-  pass_fine : (r : Rect) (es : List Entry) → Grid c r → Known r es → pass_fault s r es ≡ None → Stands c fs msg r es
+  pass_fine : (r : Rect) (es : List Entry) → Grid c r → Known r es → (c.groups ≡ true → InOrder es) → pass_fault s r es ≡ None → Stands c fs msg r es
   unfolding pass_fault record_of board_of
-  pass_fine r es g k q =
+  pass_fine r es g k n q =
+      let u : (a : Entry) → (c.groups ≡ false → Rises (spans (group s r es a))) → Rises (spans (group s r es a)) =
+      λ a. rises c.groups (spans (group s r es a)) (λ t. (n t a.state).numbers) in
       let h : first_fault (span_fault s r es) es ≡ None = (or_none _ _ q).1 in
       record {
         rect = λ e i. (k e i).rect;
@@ -278,16 +272,18 @@ module _ (c : Config) (fs : List Font) (msg : List ℕ) where
         measured = λ e i. measured r es e i (first_none (span_fault s r es) i h);
         across = λ e i. across s r es e g i (first_none (span_fault s r es) i h);
         down = λ e i d. down s r es e g (λ j. even (d j)) i (first_none (span_fault s r es) i h);
-        spacing = λ a b n u w. spacing s r es a b w n u (first_none (span_fault s r es) (of_select (same a) es (next_left n)) h);
+        numbers = λ t e. (n t e.state).numbers;
+        spacing = λ a b x p w. spacing s r es a b w x (u a p) (first_none (span_fault s r es) (of_select (same a) es (next_left x)) h);
+        apart = λ a b x p w. clear s r es a b w x (u a p) (λ e i. first_none (span_fault s r es) i h);
       }
 
-  each_fine : (evs : List Event) → EachPass (λ r es. Grid c r) evs → EachPass Known evs → EachPass (λ r es. pass_fault s r es ≡ None) evs
-      → {r : Rect} {es : List Entry} → In (pass r es) evs → Stands c fs msg r es
-  each_fine (pass r es ∷ evs) g k p here = pass_fine r es g.0 k.0 p.0
-  each_fine (pass r es ∷ evs) g k p (there i) = each_fine evs g.1 k.1 p.1 i
-  each_fine (close a b ∷ evs) g k p (there i) = each_fine evs g k p i
-  each_fine (stop x ∷ evs) g k p (there i) = each_fine evs g k p i
-  each_fine [] g k p {r = r} {es = es} x4 = elim x4 [ ]
+  each_fine : (evs : List Event) → EachPass (λ r es. Grid c r) evs → EachPass Known evs → (c.groups ≡ true → EachPass (λ r es. InOrder es) evs)
+      → EachPass (λ r es. pass_fault s r es ≡ None) evs → {r : Rect} {es : List Entry} → In (pass r es) evs → Stands c fs msg r es
+  each_fine (pass r es ∷ evs) g k n p here = pass_fine r es g.0 k.0 (λ t. (n t).0) p.0
+  each_fine (pass r es ∷ evs) g k n p (there i) = each_fine evs g.1 k.1 (λ t. (n t).1) p.1 i
+  each_fine (close a b ∷ evs) g k n p (there i) = each_fine evs g k n p i
+  each_fine (stop x ∷ evs) g k n p (there i) = each_fine evs g k n p i
+  each_fine [] g k n p {r = r} {es = es} x5 = elim x5 [ ]
 
   -- a record lies inside the rectangle at its place
   module _ (evs : List Event) (h : (r : Rect) (es : List Entry) → In (pass r es) evs → Stands c fs msg r es) where
@@ -312,6 +308,7 @@ record Read (c : Config) (its : List Item) (evs : List Event) : Type 0 where
   cover : Covers its [] (entries evs)
   grid : EachPass (λ r es. Grid c r) evs
   known : EachPass (λ r es. (e : Entry) → In e es → Seen c (at_place (rect_after c) (whole c) its) (at_place (just_after c) c.page_just its) r e) evs
+  in_order : c.groups ≡ true → EachPass (λ r es. InOrder es) evs
 
 events_read : {c : Config} {its : List Item} {l : List Event} → EventsAs c its l → Rises (item_starts its) → Runs l → Read c its l
 events_read (refused_at_once a b e) u n = absurd n
@@ -319,6 +316,7 @@ events_read {c = c} {its = its} (begun r) u n =
     record {
       cover = read_covers r n;
       grid = read_grid r (whole_grid c);
+      in_order = λ g. read_in_order g r;
       known = read_known c _ _ r (rises_low its u) (record { rect = record { at = λ n _. refl }; just = record { at = λ n _. refl } }) (λ e i. elim i [ ]);
     }
 
@@ -342,7 +340,8 @@ told c fs msg h =
     let o : Scan = opening c its in
     let w : Walked s evs [] (pages s its) = walked s evs o.on o.off [] 0 h in
     let k : Read c its evs = events_read (events_as c its (items_honest c msg)) (items_rise c msg) w.runs in
-    let f : (r : Rect) (es : List Entry) → In (pass r es) evs → Stands c fs msg r es = λ r es i. each_fine c fs msg evs k.grid k.known w.fine i in
+    let f : (r : Rect) (es : List Entry) → In (pass r es) evs → Stands c fs msg r es =
+    λ r es i. each_fine c fs msg evs k.grid k.known k.in_order w.fine i in
     let reads : (s : Slice) → In s (slices msg) → Reads (item_at c s).says = slices_read c msg k.cover.reads in
     record {
       reads = reads;

@@ -2,7 +2,7 @@
 use Prim.Native.Nat.{ℕ, zero, suc, ◌+◌, ◌%◌, ◌≤◌}
 use native.Mathlib.Nat.{le_trans, mod-one}
 use native.Mathlib.Omega.{arith}
-use mathlib.Core.Path.{◌≡◌, refl, sym, ◌∙◌}
+use mathlib.Core.Path.{◌≡◌, refl, sym, ◌∙◌, subst}
 use mathlib.Core.Logic.{◌⊎◌, inl, inr}
 use mathlib.Core.Bool.{Bool, true, false, ◌&&◌}
 use Rattle.std.specs.Prelude.{Option, Some, None}
@@ -12,12 +12,13 @@ use borrow.Author.Tests.{eq-eqb, leb-true, eqb-true}
 use Rattle.std.proofs.lemmas.Bool.{and_parts}
 use Rattle.records.specs.declared.Config.{Config}
 use Rattle.layout.specs.declared.Rect.{Rect}
+use Rattle.layout.specs.declared.RenderState.{RenderState}
 use Rattle.layout.specs.declared.Entry.{Entry}
 use Rattle.layout.specs.Types.{Meter, Board}
-use Rattle.layout.specs.Read.{unit}
-use Rattle.layout.specs.Demand.{In, here, there, Next, Rises, spans, Across, Down}
+use Rattle.layout.specs.Read.{unit, in_group}
+use Rattle.layout.specs.Demand.{In, here, there, Next, Before, Rises, spans, Across, Down}
 use Rattle.layout.specs.Placing.{or_else, unless, keep, select, same, same_page, due, sum_before, sum_after, place_x, group, before_of, after_of, lines_of, above_of, below_of, x_of, base_of, record_of, span_fault}
-use Rattle.layout.proofs.Geometry.{inside_x, inside_y, next_x, before_next, before_after, width_after_law, tall_in, tall_above, next_right}
+use Rattle.layout.proofs.Geometry.{inside_x, inside_y, next_x, before_next, before_after, width_after_law, tall_in, tall_above, next_left, next_right, before_clear}
 
 -- ---- tests
 
@@ -50,6 +51,15 @@ pub select_true {ℓ} : {A : Type ℓ} (f : A → Bool) {e : A} (l : List A) →
 select_true f (c ∷ l) i = keep_in f (f c) refl (λ j. select_true f l j) i
 select_true {A = A} f {e = e} [] i = elim i [ ]
 
+in_kept : {A : Type 0} (b : Bool) (c : A) {e : A} {l : List A} {u : List A} → (In e l → In e u) → In e (keep b c l) → In e (c ∷ u)
+in_kept true c k here = here
+in_kept true c k (there i) = there (k i)
+in_kept false c k i = there (k i)
+
+pub of_select : {A : Type 0} (f : A → Bool) {e : A} (l : List A) → In e (select f l) → In e l
+of_select f (c ∷ l) i = in_kept (f c) c (λ j. of_select f l j) i
+of_select {A = A} f {e = e} [] i = elim i [ ]
+
 pub same_refl : (e : Entry) → same e e ≡ true
 same_refl e =
     simp (
@@ -58,19 +68,23 @@ same_refl e =
       eq-eqb e.state.just_line e.state.just_line refl,
     )
 
-pub record Same (a b : Entry) : Type 0 where
-  pub just_page : a.state.just_page ≡ b.state.just_page
-  pub line : a.state.line ≡ b.state.line
-  pub just_line : a.state.just_line ≡ b.state.just_line
+-- two states of one group
+pub record InOne (a b : RenderState) : Type 0 where
+  pub just_page : a.just_page ≡ b.just_page
+  pub line : a.line ≡ b.line
+  pub just_line : a.just_line ≡ b.just_line
 
-same_true : (a b : Entry) → same a b ≡ true → Same a b
-same_true a b q =
-    let (p, r) = and_parts (eqb a.state.just_page b.state.just_page)
-    (eqb a.state.line b.state.line && eqb a.state.just_line b.state.just_line) q in
-    let (l, j) = and_parts (eqb a.state.line b.state.line) (eqb a.state.just_line b.state.just_line) r in
+pub in_one : (st : RenderState) (e : Entry) → in_group st e ≡ true → InOne st e.state
+in_one st e q =
+    let (p, r) = and_parts (eqb st.just_page e.state.just_page) (eqb st.line e.state.line && eqb st.just_line e.state.just_line) q in
+    let (l, j) = and_parts (eqb st.line e.state.line) (eqb st.just_line e.state.just_line) r in
     record { just_page = eqb-true _ _ p; line = eqb-true _ _ l; just_line = eqb-true _ _ j }
 
-same_group : (s : Board) (r : Rect) (es : List Entry) (a b : Entry) → Same a b → group s r es a ≡ group s r es b
+-- a span of a group is in one with the span whose group it is
+pub group_one : (s : Board) (r : Rect) (es : List Entry) (a b : Entry) → In b (group s r es a) → InOne a.state b.state
+group_one s r es a b i = in_one a.state b (select_true (same a) es i)
+
+same_group : (s : Board) (r : Rect) (es : List Entry) (a b : Entry) → InOne a.state b.state → group s r es a ≡ group s r es b
 same_group s r es a b q = rw (q.just_page, q.line, q.just_line)
 
 -- ---- a span that is placed
@@ -135,7 +149,7 @@ unfolding x_of before_of after_of
 spacing s r es a b c n u q =
     let m : Meter = s.meter in
     let t : Passed s r es a = passed s r es a q in
-    let k : Same a b = same_true a b (select_true (same a) es (next_right n)) in
+    let k : InOne a.state b.state = group_one s r es a b (next_right n) in
     let g : group s r es a ≡ group s r es b = same_group s r es a b k in
     let o : List Entry = group s r es a in
     let i : ℕ = a.state.span in
@@ -145,3 +159,19 @@ spacing s r es a b c n u q =
     x
     ∙ next_x a.state.just_line s.config.char_width r _ _ _ _ (m.width a) (due m a b) c e
     (before_after m i None o ∙ sym (before_after m j None o)) t.width
+
+-- no two spans of a group stand on each other
+pub clear : (s : Board) (r : Rect) (es : List Entry) (a b : Entry) → (a.state.just_line ≡ 3 → s.config.char_width ≤ 1) → Before a b (group s r es a)
+    → Rises (spans (group s r es a)) → ((e : Entry) → In e es → span_fault s r es e ≡ None) → x_of s r es a + s.meter.width a ≤ x_of s r es b
+clear s r es a b c i u f = before_clear (x_of s r es) s.meter.width neighbours i
+  where
+    neighbours : (p q : Entry) → Next p q (group s r es a) → x_of s r es p + s.meter.width p ≤ x_of s r es q
+    neighbours p q n =
+        let k : In p (group s r es a) = next_left n in
+        let o : InOne a.state p.state = group_one s r es a p k in
+        let g : group s r es a ≡ group s r es p = same_group s r es a p o in
+        omega (
+          arith,
+          spacing s r es p q (λ j. c (o.just_line ∙ j)) (subst (Next p q) g n) (subst (λ (l : List Entry). Rises (spans l)) g u)
+              (f p (of_select (same a) es k)),
+        )

@@ -11,7 +11,7 @@ use Rattle.layout.specs.declared.RenderState.{RenderState}
 use Rattle.layout.specs.declared.Entry.{Entry}
 use Rattle.layout.specs.Types.{Item}
 use Rattle.layout.specs.Demand.{Role, at_place, rect_after, just_after, role_in, In, here, there, From, Rises}
-use Rattle.layout.specs.Read.{Event}
+use Rattle.layout.specs.Read.{Event, renumbered}
 use Rattle.layout.proofs.Cover.{Taken, SpanOf, ReadAs, ends, refuses, goes, emits, cuts, turns, fails, item_starts, EachPass}
 
 -- the starts rise strictly from lo on
@@ -66,8 +66,8 @@ module _ (s : Config) (R : ℕ → Rect) (J : ℕ → ℕ) where
     rest_next : {st' : RenderState} {es : List Entry} → Taken s st it st' es → Rest (suc it.start) st' its
     rest_next f = record { rect = agrees_next (rect_after s) R h t.rect f.rect; just = agrees_next (just_after s) J h t.just f.just }
 
-    seen : {e : Entry} → SpanOf st it e → Seen st.rect e
-    seen o =
+    seen : (acc : List Entry) {e : Entry} → SpanOf (renumbered s acc st) it e → Seen st.rect e
+    seen acc o =
         record {
           rect = rw o.start (sym (agrees_here (rect_after s) R h t.rect));
           just = rw (o.start, o.state) (sym (agrees_here (just_after s) J h t.just));
@@ -87,7 +87,7 @@ module _ (s : Config) (R : ℕ → Rect) (J : ℕ → ℕ) where
   read_known ends h t u = (u, tt)
   read_known (refuses f) h t u = tt
   read_known (goes f q r) h t u = read_known r h.1 (rest_next h.0 t f) (same_known q u)
-  read_known (emits {acc = acc} f q o r) h t u = read_known r h.1 (rest_next h.0 t f) (same_known q (more_known acc u (seen h.0 t o)))
+  read_known (emits {acc = acc} f q o r) h t u = read_known r h.1 (rest_next h.0 t f) (same_known q (more_known acc u (seen h.0 t acc o)))
   read_known (cuts f q r) h t u = (u, read_known r h.1 (rest_next h.0 t f) none_known)
   read_known (turns f q r) h t u = (u, read_known r h.1 (rest_next h.0 t f) none_known)
   read_known (fails f q x y e) h t u = (u, tt)

@@ -65,6 +65,10 @@ option kind = 0 ∷ 0 ∷ kind ∷ 0 ∷ []
 unfoldable pub board_with : List ℕ → List ℕ
 board_with options = config 24 0 0 2 ++ options ++ font1 7
 
+-- board P with kind 6
+unfoldable pub board_g : List ℕ
+board_g = board_with (option 6)
+
 -- ---- answers
 
 -- a text n times
@@ -138,6 +142,27 @@ hex start len code w =
       font = 1;
       line = 0;
       span = 0;
+      rect_x = 1;
+      rect_y = 1;
+      rect_width = 50;
+      rect_height = 24;
+    }
+
+-- an empty span of board P: start, x, y, line and span number
+unfoldable pub blank : ℕ → ℕ → ℕ → ℕ → ℕ → Span
+blank start x y line span =
+    record {
+      kind = 2;
+      start = start;
+      length = 0;
+      code = 0;
+      x = x;
+      y = y;
+      width = 0;
+      height = 7;
+      font = 1;
+      line = line;
+      span = span;
       rect_x = 1;
       rect_y = 1;
       rect_width = 50;
@@ -222,6 +247,22 @@ pub record Boards : Type 0 where
   -- kind 4 twice, and after a font: 1 at its offset
   pub option_twice : board (board_with (option 4 ++ option 4)) "A" 1 ≡ refused 1 23 0 0 ∷ []
   pub option_late : board (board_p ++ option 4) "A" 1 ≡ refused 1 64 0 0 ∷ []
+  -- A6, with kind 6: a repeated justification goes on numbering
+  pub again : board board_g "A[jl2]B" 1 ≡ lit 30 2 (text 0 1 0 0 5 0 0 ∷ text 6 1 7 0 6 0 1 ∷ []) ∷ []
+  -- and so does a page justification that comes back to its first line
+  pub comes_back : board board_g "A[nl]B[jp3][jp2]B" 1 ≡ lit 30 3 (text 0 1 0 0 5 0 0 ∷ text 5 1 0 10 6 1 0 ∷ text 16 1 7 0 6 0 1 ∷ []) ∷ []
+  -- an empty span's number too: on the line of A, after its spacing
+  pub empty_again : board board_g "A[nl][jp3][jp2][nl]" 1 ≡ lit 30 2 (text 0 1 0 0 5 0 0 ∷ blank 15 7 0 0 1 ∷ []) ∷ []
+  -- another line or justification has a group of its own, and each pass has groups of its own
+  pub own_groups : board board_g "A[jl4]B[nl]A[sc0]B" 1
+      ≡ lit 30 4 (text 0 1 0 0 5 0 0 ∷ text 6 1 44 0 6 0 0 ∷ text 11 1 39 10 5 1 0 ∷ text 17 1 44 10 6 1 1 ∷ []) ∷ []
+  pub own_pass : board board_g "A[tr1,1,0,0]B" 1 ≡ lit 30 2 (text 0 1 0 0 5 0 0 ∷ text 12 1 0 0 6 0 0 ∷ []) ∷ []
+  -- 9 is judged as before
+  pub back_again : board board_g "A[jl4]B[jl2]A" 1 ≡ refused 9 12 1 0 ∷ []
+  -- 8: the 256th span of a group, although a [jl] stands before each, and an empty one, although a [jp] does; without kind 6 neither
+  pub crowded : calls board_g (times 256 (ascii "[jl2]A")) 1 0 ≡ refused 8 1535 1 0 ∷ []
+  pub crowded_empty : calls board_g (times 255 (ascii "[[") ++ ascii "[nl][jp3][jp2][nl]") 1 0 ≡ refused 8 524 4 0 ∷ []
+  pub uncrowded : calls board_p (times 256 (ascii "[jl2]A")) 1 0 ≡ refused 13 5 1 0 ∷ []
 
 pub boards : Boards
 unfolding times digit_of read_from read_digits read_number version_id first extra low_byte high fits_due after_byte well_formed_from well_formed
@@ -235,7 +276,7 @@ unfolding times digit_of read_from read_digits read_number version_id first extr
     is_character has_option past_option past_options fault_from first_bad fault sign_file items measure_in meter_of board_of lookup character_in
     is_capital stand_ins widened width_after text_width step opening events or_else unless due line_gap before_of after_of lines_of above_of below_of
     x_of base_of record_of span_fault pass_fault pass_records pages admission result dark config character font1 board_p board_m board_c option
-    board_with calls board text within hex lit off end refused
+    board_with board_g calls board text within hex blank lit off end refused
 boards =
     record {
       empty = refl;
@@ -283,4 +324,13 @@ boards =
       options_back = refl;
       option_twice = refl;
       option_late = refl;
+      again = refl;
+      comes_back = refl;
+      empty_again = refl;
+      own_groups = refl;
+      own_pass = refl;
+      back_again = refl;
+      crowded = refl;
+      crowded_empty = refl;
+      uncrowded = refl;
     }

@@ -1,5 +1,5 @@
 -- Demand 3 (quoted in docs/DEMANDS.md), with document 01, "What demand 3 compares": what holds of a whole listing that no refusal ends.
-use Rattle.std.specs.Prelude.{ℕ, zero, suc, ◌+◌, ◌≤◌, ◌<◌, ◌%◌, ◌≡◌, ◌⊎◌, List, [], ◌∷◌, ◌++◌, map, leb, length, take, Option, Some, Result, Ok, Err, unwrap_or}
+use Rattle.std.specs.Prelude.{ℕ, zero, suc, ◌+◌, ◌≤◌, ◌<◌, ◌%◌, ◌≡◌, ◌⊎◌, true, false, List, [], ◌∷◌, ◌++◌, map, leb, length, take, Option, Some, Result, Ok, Err, unwrap_or}
 use Rattle.base.specs.Pick.{pick}
 use Rattle.token.specs.declared.Shape.{Shape}
 use Rattle.token.specs.declared.Shape.TheVariants.{Bracket, Tag, Stray, Text as TextShape}
@@ -37,6 +37,11 @@ pub data Next {ℓ} {A : Type ℓ} : A → A → List A → Type ℓ where
   first : {a b : A} {l : List A} → Next a b (a ∷ b ∷ l)
   later : {a b c : A} {l : List A} → Next a b l → Next a b (c ∷ l)
 
+-- a stands before b in the list
+pub data Before {ℓ} {A : Type ℓ} : A → A → List A → Type ℓ where
+  from_here : {a b : A} {l : List A} → In b l → Before a b (a ∷ l)
+  from_there : {a b c : A} {l : List A} → Before a b l → Before a b (c ∷ l)
+
 -- the numbers rise strictly, from above n
 abbrev pub From : ℕ → List ℕ → Type 0
 From n [] = Unit {0}
@@ -45,6 +50,11 @@ From n (k ∷ ks) = (n < k) × From k ks
 abbrev pub Rises : List ℕ → Type 0
 Rises [] = Unit {0}
 Rises (k ∷ ks) = From k ks
+
+-- the numbers are n, n + 1 and on
+abbrev pub Consecutive : ℕ → List ℕ → Type 0
+Consecutive n [] = Unit {0}
+Consecutive n (k ∷ ks) = (k ≡ n) × Consecutive (suc n) ks
 
 -- ---- a whole listing: "the calls for answers 0, 1 and on up to the end or a refusal .., each on a slice of any length and contents"
 
@@ -248,10 +258,16 @@ module _ (c : Config) (fs : List SignFont) (msg : List ℕ) (r : Rect) (es : Lis
     -- "each span lies inside its text rectangle on all four sides"; "For the top and bottom of middle placing this holds if" the height divides
     pub across : (e : Entry) → In e es → Across r (own_record e)
     pub down : (e : Entry) → In e es → (e.state.just_page ≡ 3 → Divides c fs) → Down r (own_record e)
+    -- A6, with kind 6: a span's number "is 0 if its group has none yet, and otherwise one above the group's last", so that they rise strictly
+    pub numbers : c.groups ≡ true → (e : Entry) → Consecutive 0 (spans (group_of e))
     -- "of two neighbours in one justification group the later one's x = the earlier one's x + its width + the spacing due", "if the group's span
-    -- numbers rise strictly in the message's order and, in centred lines, the character width is 0 or 1"
-    pub spacing : (a b : Entry) → Next a b (group_of a) → Rises (spans (group_of a)) → (a.state.just_line ≡ 3 → c.char_width ≤ 1)
+    -- numbers rise strictly in the message's order and, in centred lines, the character width is 0 or 1"; A6: with kind 6 "without the premise on
+    -- span numbers; the centred-line premise remains"
+    pub spacing : (a b : Entry) → Next a b (group_of a) → (c.groups ≡ false → Rises (spans (group_of a))) → (a.state.just_line ≡ 3 → c.char_width ≤ 1)
         → (own_record b).x ≡ (own_record a).x + (own_record a).width + due (board_of msg c fs).meter a b
+    -- and so no two spans of a group stand on each other
+    pub apart : (a b : Entry) → Before a b (group_of a) → (c.groups ≡ false → Rises (spans (group_of a))) → (a.state.just_line ≡ 3 → c.char_width ≤ 1)
+        → (own_record a).x + (own_record a).width ≤ (own_record b).x
 
 -- of a whole listing
 pub record Demand3 (file msg : List ℕ) (lent : ℕ → List Span) (N : ℕ) : Type 0 where

@@ -9,7 +9,7 @@ use Rattle.layout.specs.declared.Entry.{Entry}
 use Rattle.layout.specs.declared.Fault.{Fault}
 use Rattle.layout.specs.Types.{Meter, Board}
 use Rattle.refusal.specs.Refusals.{refusal}
-use Rattle.layout.specs.Read.{unit}
+use Rattle.layout.specs.Read.{unit, in_group}
 
 -- ---- small parts
 
@@ -46,9 +46,9 @@ select f (e ∷ es) = keep (f e) e (select f es)
 
 -- ---- across: a group
 
--- "Spans of one pass sharing page justification, line and line justification form a group" (`matches_span`)
+-- two spans of one group
 abbrev pub same : Entry → Entry → Bool
-same r e = eqb r.state.just_page e.state.just_page && (eqb r.state.line e.state.line && eqb r.state.just_line e.state.just_line)
+same r e = in_group r.state e
 
 -- spans whose lines are set together (`matches_line`)
 abbrev pub same_page : Entry → Entry → Bool

@@ -220,10 +220,11 @@ abbrev pub go_if : Place → Option ℕ → (ℕ → RenderState) → Bool → R
 go_if at None f blank = Err (refusal_at at 6)
 go_if at (Some n) f blank = Ok (Go (f n) blank)
 
--- "[nl] on a still blank line lists an empty span": kind 2, which "starts at its [nl], length 0"
-abbrev pub line_step : Place → RenderState → Option ℕ → Bool → Result Step Refusal
-line_step at st ls true = Ok (Emit (entry_of 2 at.start 0 0 st) (with_line st ls) true)
-line_step at st ls false = Ok (Go (with_line st ls) true)
+-- "[nl] on a still blank line lists an empty span": kind 2, which "starts at its [nl], length 0". A6: with kind 6 "Refusal 8 then counts a group's
+-- spans", an empty one too
+abbrev pub line_step : Config → Place → RenderState → Option ℕ → Bool → Result Step Refusal
+line_step s at st ls true = pick (s.groups && leb 255 st.span) (Err (refusal_at at 8)) (Ok (Emit (entry_of 2 at.start 0 0 st) (with_line st ls) true))
+line_step s at st ls false = Ok (Go (with_line st ls) true)
 
 -- D800 to DFFF hexadecimal
 abbrev pub surrogate : ℕ → Bool
@@ -240,7 +241,7 @@ above0 a b = ltb 0 a && ltb 0 b
 abbrev pub new_line_step : Config → RenderState → Bool → Place → Option ℕ → Result Step Refusal
 new_line_step s st blank at ls =
     pick (above0 s.char_height (unwrap_or ls 0)) (Err (refusal_at at 6))
-    (pick (ltb st.line 255) (line_step at st ls blank) (Err (refusal_at at 8)))
+    (pick (ltb st.line 255) (line_step s at st ls blank) (Err (refusal_at at 8)))
 
 abbrev pub spacing_step : Config → RenderState → Bool → Place → ℕ → Result Step Refusal
 spacing_step s st blank at n = pick (above0 s.char_width n) (Err (refusal_at at 6)) (Ok (Go (with_char_spacing st (Some n)) blank))
@@ -281,6 +282,21 @@ item_step s st blank at (Err e) = Err (refusal_at at (number_of e))
 
 unfoldable pub step : Config → RenderState → Bool → Item → Result Step Refusal
 step s st blank it = item_step s st blank (place_of it) it.says
+
+-- ---- A6: the number of a span, where the sign file has kind 6
+
+-- the span is of the state's group: "Spans of one pass sharing page justification, line and line justification form a group" (`matches_span`)
+abbrev pub in_group : RenderState → Entry → Bool
+in_group st e = eqb st.just_page e.state.just_page && (eqb st.line e.state.line && eqb st.just_line e.state.just_line)
+
+-- "0 if its group has none yet, and otherwise one above the group's last"; the list: the spans of the pass so far; n: the number due before them
+abbrev pub group_number : RenderState → ℕ → List Entry → ℕ
+group_number st n [] = n
+group_number st n (e ∷ es) = group_number st (pick (in_group st e) (suc e.state.span) n) es
+
+-- the state in which the next item is read, after the spans of the pass so far; without kind 6 it keeps its span number
+abbrev pub renumbered : Config → List Entry → RenderState → RenderState
+renumbered s acc st = with_span st (pick s.groups (group_number st 0 acc) st.span)
 
 -- ---- a message
 
@@ -341,7 +357,7 @@ follow s a b st acc its next (Ok Turn) =
 
 abbrev pub read : Config → List Item → ℕ → ℕ → RenderState → Bool → List Entry → List Event
 read s [] a b st blank acc = pass st.rect acc ∷ []
-read s (it ∷ its) a b st blank acc = follow s a b st acc its (read s its) (step s st blank it)
+read s (it ∷ its) a b st blank acc = follow s a b st acc its (read s its) (step s (renumbered s acc st) blank it)
 
 -- the first page's scan
 unfoldable pub opening : Config → List Item → Scan

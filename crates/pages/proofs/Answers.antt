@@ -132,4 +132,4 @@ unfolding pages events opening turned items items_from slices
 pages_todo s msg = refl
 
 pub first_in_law : (c : Config) (all : ℕ) → InMessage c all (first_of c)
-first_in_law c all = record { within = omega arith; inside = whole_inside c }
+first_in_law c all = record { within = omega arith; inside = record { rect = whole_inside c; justs = λ j. j } }

@@ -25,7 +25,7 @@ use Rattle.pass.specs.declared.How.{How}
 use Rattle.pass.specs.declared.How.TheVariants.{Cut as ByCut, Turn as ByTurn, End as ByEnd}
 use Rattle.pass.specs.declared.PassDone.{PassDone}
 use Rattle.pass.specs.declared.Reached.{Reached}
-use Rattle.pass.specs.Pass.{Ending, refused, ended, entries_of, ending_of, events_after, events_by, start_at, told, items_in, entries_from, Inside, tag_bytes}
+use Rattle.pass.specs.Pass.{Ending, refused, ended, entries_of, ending_of, events_after, events_by, start_at, told, items_in, entries_from, Inside, InSign, tag_bytes}
 use Rattle.pass.proofs.Read.{read_pass}
 use Rattle.rows.specs.declared.Row.{Row}
 use Rattle.meter.specs.declared.call.Call.{Call}
@@ -88,7 +88,7 @@ pub record Stands (call : Call) (from : ℕ) (first : RenderState) (rows₀ : Li
   pub few : p.looked ≤ p.at
   pub begun : from ≤ p.at
   pub within : p.at ≤ length call.msg.now
-  pub inside : Inside call.table.config p.state.rect
+  pub inside : InSign call.table.config p.state
   pub rowed : length rows ≡ length rows₀
   pub room : length out ≡ length out₀
   pub same : (a b : ℕ)
@@ -194,7 +194,7 @@ module _ {call : Call} {from : ℕ} {first : RenderState} {rows₀ : List Row} {
                   short = omega (arith, placed.few, placed.within);
                   forward = omega (arith, forth, z.begun, l);
                   within = placed.within;
-                  inside = whole_inside call.table.config;
+                  inside = record { rect = whole_inside call.table.config; justs = placed.inside.justs };
                 };
             rowed = page_rowed;
             room = page_room;

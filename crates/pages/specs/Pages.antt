@@ -25,7 +25,7 @@ use Rattle.meter.specs.declared.call.Call.{Call}
 use Rattle.meter.specs.Gauges.{meter_in}
 use Rattle.pass.specs.declared.PassDone.{PassDone}
 use Rattle.pass.specs.declared.Reached.{Reached}
-use Rattle.pass.specs.Pass.{Ending, refused, ended, items_in, entries_from, ending_from, told, Inside, tag_bytes}
+use Rattle.pass.specs.Pass.{Ending, refused, ended, items_in, entries_from, ending_from, told, InSign, tag_bytes}
 use Rattle.pages.specs.declared.PageDone.{PageDone}
 use Rattle.pages.specs.declared.Pages.{Pages}
 use Rattle.pages.specs.declared.PageShown.{PageShown}
@@ -54,7 +54,7 @@ pub record RenderAsked (call : Call) (rows : List Row) (out : List Span) (p : Re
   pub counted : p.count ≤ p.at
   pub looked : p.looked ≡ looked_for call.file.now call.msg.now out p.count
   pub few : p.looked ≤ p.at
-  pub inside : Inside call.table.config p.state.rect
+  pub inside : InSign call.table.config p.state
 
 -- ---- a pass that is placed
 
@@ -75,7 +75,7 @@ pub record SpansPlaced (call : Call) (p : Reached) (out out' : List Span) (d : P
   pub few : d.reached.looked ≤ d.reached.at
   pub forward : p.at + tag_bytes d.how ≤ d.reached.at
   pub within : d.reached.at ≤ length call.msg.now
-  pub inside : Inside call.table.config d.reached.state.rect
+  pub inside : InSign call.table.config d.reached.state
 
 -- it was read and placed, and ended so; rows and out were there before it, and rows' and out' are after it
 pub record PassRendered (call : Call) (p : Reached) (rows : List Row) (out : List Span) (rows' : List Row) (out' : List Span) (r : Result PassDone Refusal)
@@ -117,7 +117,7 @@ pub record PageInMessage (call : Call) (out : List Span) (from : ℕ) (d : PageD
   pub short : d.reached.looked ≤ length call.msg.now
   pub forward : from + pick d.more 1 0 ≤ d.reached.at
   pub within : d.reached.at ≤ length call.msg.now
-  pub inside : Inside call.table.config d.reached.state.rect
+  pub inside : InSign call.table.config d.reached.state
 
 -- the page from a place on was read and placed, and ended so
 pub record PageRendered (call : Call) (from : ℕ) (first : RenderState) (rows : List Row) (out : List Span) (rows' : List Row) (out' : List Span)
@@ -185,7 +185,7 @@ next_told s msg l p (Err r) = refused_page r ∷ []
 -- in the message and on the sign
 pub record InMessage (c : Config) (all : ℕ) (p : Pages) : Type 0 where
   pub within : p.at ≤ all
-  pub inside : Inside c p.render_state.rect
+  pub inside : InSign c p.render_state
 
 -- at most so many answers come from here to the next [np]: an off page that is due, an on page, and its off page
 abbrev pub weight : PageState → ℕ

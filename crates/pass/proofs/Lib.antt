@@ -1,3 +1,4 @@
 pub mod Items
+pub mod Groups
 pub mod Laws
 pub mod Read

@@ -12,24 +12,27 @@ use Rattle.layout.specs.declared.Step.TheVariants.{Go, Emit, Cut, Turn}
 use Rattle.std.specs.Prelude.{Result, Ok, Err}
 use Rattle.refusal.specs.declared.Refusal.{Refusal}
 use Rattle.layout.specs.Types.{Item}
-use Rattle.layout.specs.Read.{step, follow, read}
-use Rattle.pass.specs.Pass.{entries_by, entries_of, ending_by, ending_of, events_by}
+use Rattle.layout.specs.Read.{step, follow, renumbered, read}
+use Rattle.pass.specs.Pass.{entries_by, entries_after, entries_of, ending_by, ending_after, ending_of, events_by}
 
 module _ (c : Config) (a b : ℕ) where
   follow_pass : (st : RenderState) (acc : List Entry) (its : List Item) (t : Result Step Refusal)
-      → ((st' : RenderState) (bl : Bool) (l : List Entry) → read c its a b st' bl l ≡ events_by c a b (l ++ entries_of c its st' bl) (ending_of c its st' bl))
-      → follow c a b st acc its (read c its) t ≡ events_by c a b (acc ++ entries_by (entries_of c its) t) (ending_by st its (ending_of c its) t)
+      → ((st' : RenderState) (bl : Bool) (l : List Entry)
+      → read c its a b st' bl l ≡ events_by c a b (l ++ entries_after c its st' bl l) (ending_after c its st' bl l))
+      → follow c a b st acc its (read c its) t
+      ≡ events_by c a b (acc ++ entries_by (entries_after c its) acc t) (ending_by (renumbered c acc st) its (ending_after c its) acc t)
   follow_pass st acc its (Err r) h = refl
   follow_pass st acc its (Ok (Go st' bl)) h = h st' bl acc
   follow_pass st acc its (Ok (Emit e st' bl)) h =
-      h st' bl (acc ++ (e ∷ [])) ∙ ap (λ (l : List Entry). events_by c a b l (ending_of c its st' bl)) (append_assoc acc (e ∷ []) (entries_of c its st' bl))
+      let u : List Entry = acc ++ (e ∷ []) in
+      h st' bl u ∙ ap (λ (l : List Entry). events_by c a b l (ending_after c its st' bl u)) (append_assoc acc (e ∷ []) (entries_after c its st' bl u))
   follow_pass st acc its (Ok (Cut st')) h = rw (append-nil acc)
   follow_pass st acc its (Ok Turn) h = rw (append-nil acc)
 
   read_from_law : (its : List Item) (st : RenderState) (bl : Bool) (acc : List Entry)
-      → read c its a b st bl acc ≡ events_by c a b (acc ++ entries_of c its st bl) (ending_of c its st bl)
+      → read c its a b st bl acc ≡ events_by c a b (acc ++ entries_after c its st bl acc) (ending_after c its st bl acc)
   read_from_law [] st bl acc = rw (append-nil acc)
-  read_from_law (it ∷ its) st bl acc = follow_pass st acc its (step c st bl it) (λ st' bl' l. read_from_law its st' bl' l)
+  read_from_law (it ∷ its) st bl acc = follow_pass st acc its (step c (renumbered c acc st) bl it) (λ st' bl' l. read_from_law its st' bl' l)
 
   -- a pass is read, and then what follows it
   pub read_pass : (its : List Item) (st : RenderState) → read c its a b st true [] ≡ events_by c a b (entries_of c its st true) (ending_of c its st true)

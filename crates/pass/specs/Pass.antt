@@ -1,5 +1,5 @@
 -- A pass as the code reads it: its spans, and how it ends. `read_pass` of proofs/Read.antt says that layout's `read` is made of these.
-use Rattle.std.specs.Prelude.{ℕ, ◌+◌, ◌≤◌, ◌≡◌, Bool, true, List, [], ◌∷◌, map, length, set, Option, Result, Ok, Err, IfSome, IfOk, sum_by}
+use Rattle.std.specs.Prelude.{ℕ, ◌+◌, ◌≤◌, ◌≡◌, Bool, true, List, [], ◌∷◌, ◌++◌, map, length, set, Option, Result, Ok, Err, IfSome, IfOk, sum_by}
 use Rattle.font.specs.declared.FontWidths.{FontWidths}
 use Rattle.refusal.specs.declared.Refusal.{Refusal}
 use Rattle.records.specs.declared.Config.{Config}
@@ -8,9 +8,9 @@ use Rattle.layout.specs.declared.RenderState.{RenderState}
 use Rattle.layout.specs.declared.Entry.{Entry}
 use Rattle.layout.specs.declared.Step.{Step}
 use Rattle.layout.specs.declared.Step.TheVariants.{Go, Emit, Cut, Turn}
-use Rattle.layout.specs.Types.{Item, item_at}
+use Rattle.layout.specs.Types.{Item, item_at, JustsOf, DefaultJusts}
 use Rattle.layout.specs.declared.Scan.{Scan}
-use Rattle.layout.specs.Read.{step, scan, Event, pass, close, stop, stop_if, new_page, read}
+use Rattle.layout.specs.Read.{step, scan, Event, pass, close, stop, stop_if, new_page, renumbered, read}
 use Rattle.page.specs.Scan.{items_from}
 use Rattle.rows.specs.Rows.{RowRoom, rows_of}
 use Rattle.rows.specs.declared.Row.{Row}
@@ -27,29 +27,37 @@ pub data Ending : Type 0 where
   refused : Refusal → Ending
   ended : How → Rect → RenderState → List Item → Ending
 
-abbrev pub entries_by : (RenderState → Bool → List Entry) → Result Step Refusal → List Entry
-entries_by next (Err r) = []
-entries_by next (Ok (Go st b)) = next st b
-entries_by next (Ok (Emit e st b)) = e ∷ next st b
-entries_by next (Ok (Cut st)) = []
-entries_by next (Ok Turn) = []
+abbrev pub entries_by : (RenderState → Bool → List Entry → List Entry) → List Entry → Result Step Refusal → List Entry
+entries_by next acc (Err r) = []
+entries_by next acc (Ok (Go st b)) = next st b acc
+entries_by next acc (Ok (Emit e st b)) = e ∷ next st b (acc ++ (e ∷ []))
+entries_by next acc (Ok (Cut st)) = []
+entries_by next acc (Ok Turn) = []
+
+-- the spans of a pass that are still to come; acc: those so far
+abbrev pub entries_after : Config → List Item → RenderState → Bool → List Entry → List Entry
+entries_after c [] st blank acc = []
+entries_after c (it ∷ its) st blank acc = entries_by (entries_after c its) acc (step c (renumbered c acc st) blank it)
 
 -- the spans of a pass
 abbrev pub entries_of : Config → List Item → RenderState → Bool → List Entry
-entries_of c [] st blank = []
-entries_of c (it ∷ its) st blank = entries_by (entries_of c its) (step c st blank it)
+entries_of c its st blank = entries_after c its st blank []
 
-abbrev pub ending_by : RenderState → List Item → (RenderState → Bool → Ending) → Result Step Refusal → Ending
-ending_by st its next (Err r) = refused r
-ending_by st its next (Ok (Go st' b)) = next st' b
-ending_by st its next (Ok (Emit e st' b)) = next st' b
-ending_by st its next (Ok (Cut st')) = ended ByCut st.rect st' its
-ending_by st its next (Ok Turn) = ended ByTurn st.rect st its
+abbrev pub ending_by : RenderState → List Item → (RenderState → Bool → List Entry → Ending) → List Entry → Result Step Refusal → Ending
+ending_by st its next acc (Err r) = refused r
+ending_by st its next acc (Ok (Go st' b)) = next st' b acc
+ending_by st its next acc (Ok (Emit e st' b)) = next st' b (acc ++ (e ∷ []))
+ending_by st its next acc (Ok (Cut st')) = ended ByCut st.rect st' its
+ending_by st its next acc (Ok Turn) = ended ByTurn st.rect st its
 
 -- how it ends
+abbrev pub ending_after : Config → List Item → RenderState → Bool → List Entry → Ending
+ending_after c [] st blank acc = ended ByEnd st.rect st []
+ending_after c (it ∷ its) st blank acc =
+    ending_by (renumbered c acc st) its (ending_after c its) acc (step c (renumbered c acc st) blank it)
+
 abbrev pub ending_of : Config → List Item → RenderState → Bool → Ending
-ending_of c [] st blank = ended ByEnd st.rect st []
-ending_of c (it ∷ its) st blank = ending_by st its (ending_of c its) (step c st blank it)
+ending_of c its st blank = ending_after c its st blank []
 
 -- what the slice s, which starts at a place, does
 unfoldable pub step_at : Config → RenderState → Bool → ℕ → List ℕ → Result Step Refusal
@@ -68,6 +76,11 @@ told c msg (Ok d) = ended d.how d.rect d.reached.state (items_from c d.reached.a
 pub record Inside (c : Config) (r : Rect) : Type 0 where
   pub across : r.left + r.width ≤ c.width
   pub down : r.top + r.height ≤ c.height
+
+-- a state whose rectangle does, with justifications as a sign may have them, if the sign has such
+pub record InSign (c : Config) (st : RenderState) : Type 0 where
+  pub rect : Inside c st.rect
+  pub justs : DefaultJusts c → JustsOf st
 
 -- [tr] and [np] have a byte at least
 abbrev pub tag_bytes : How → ℕ
@@ -113,7 +126,7 @@ pub record Stored (call : Call) (e : Entry) (rows : List Row) (n : ℕ) (held' :
 pub record PassAsked (call : Call) (from : ℕ) (first : RenderState) (rows : List Row) : Type 0 where
   pub within : from ≤ length call.msg.now
   pub rowed : RowRoom (length call.msg.now) rows
-  pub inside : Inside call.table.config first.rect
+  pub inside : InSign call.table.config first
 
 -- a pass that is done: the first rows are its spans', and their measures looked so many characters up; each has a byte beside those of its end; and its
 -- rectangles lie inside the sign
@@ -124,7 +137,7 @@ pub record SpansRead (call : Call) (from : ℕ) (first : RenderState) (rows : Li
   pub few : from + d.reached.looked ≤ d.reached.at
   pub within : d.reached.at ≤ length call.msg.now
   pub inside : Inside call.table.config d.rect
-  pub next : Inside call.table.config d.reached.state.rect
+  pub next : InSign call.table.config d.reached.state
 
 -- the pass from a place on was read, and ended so; rows were there before it, and rows' are after it
 pub record PassRead (call : Call) (from : ℕ) (first : RenderState) (rows rows' : List Row) (r : Result PassDone Refusal)

@@ -1,8 +1,10 @@
 // Reading a pass: the values of a message up to [tr], [np] or the end, into rows of measured spans.
 #![tactic(auto)]
 
-ghost use Rattle.std.specs.Prelude.{◌≡◌, ◌+◌, ◌≤◌, length};
+ghost use Rattle.std.specs.Prelude.{◌≡◌, ◌+◌, ◌≤◌, ◌<◌, ◌⊎◌, [], length};
+ghost use Rattle.layout.specs.Types.{JustsOf};
 ghost use Rattle.meter.specs.Gauges.{WidthsOf};
+ghost use Rattle.pass.specs.Groups.{group_count, slot_of, Slotted, renumbered_by, numbers_with, Numbered};
 ghost use Rattle.pass.specs.Pass.{step_at, start_at, Holds, Storable, Stored, PassAsked, PassRead};
 
 use font::FontWidths;
@@ -12,6 +14,9 @@ use refusal::Refusal;
 use rows::Row;
 use token::Slices;
 use value::Place;
+
+// As many groups as a pass can have: 256 lines, with 3 page justifications and 3 line justifications each.
+const GROUPS: usize = 2304;
 
 // What ends a pass: [tr], [np] or the message's end. No Option: none of the three is missing, and the page goes on otherwise at each.
 #[derive(Clone, Copy)]
@@ -52,6 +57,37 @@ pub struct PassDone {
     pub how: How,
     pub rect: Rect,
     pub reached: Reached,
+}
+
+// The place of a state's group in the table of the groups' numbers.
+fn slot(st: RenderState) -> usize
+    requires { JustsOf st }
+    ensures { (result ≡ slot_of st) × (result < group_count) }
+{
+    let page = usize::from(st.just_page - 2);
+    let line = usize::from(st.just_line - 2);
+    (usize::from(st.line) * 3 + page) * 3 + line
+}
+
+// The state gets the number that comes next in its group, where there is a table of them.
+fn renumber(numbers: &[u8], st: &mut RenderState)
+    requires { Slotted numbers.now st.old }
+    ensures { st.new ≡ renumbered_by numbers.now st.old }
+{
+    if !numbers.is_empty() {
+        st.span = numbers[slot(*st)];
+    }
+}
+
+// A span was read in the state: the next of its group has the number above.
+fn take_number(numbers: &mut [u8], st: RenderState)
+    requires slotted { Slotted numbers.old st }
+    requires few { numbers.old ≡ [] ⊎ st.span < 255 }
+    ensures { numbers.new ≡ numbers_with numbers.old st }
+{
+    if !numbers.is_empty() {
+        numbers[slot(st)] = st.span + 1;
+    }
 }
 
 // What the slice s, which starts at a place, does. The casts are proved; try_from would add an error that no call gives.
@@ -100,15 +136,17 @@ fn store<'a>(
     looked
 }
 
-// The pass from a place on. Its spans' rows stand first in the slice.
-#[tactic(auto, using(crate::proofs::Laws::pass_ways))]
-pub fn read_pass(
+// The slices of a pass from a place on, with a table of its groups' numbers, or an empty one where they do not count. No const parameter:
+// with two copies of the loop what it calls is no longer part of it, and a span takes a tenth longer.
+fn read_slices(
     call: &Call,
     from: usize,
     start: RenderState,
     rows: &mut [Row],
+    numbers: &mut [u8],
 ) -> Result<PassDone, Refusal>
-    requires { PassAsked call.now from start rows.old }
+    requires asked { PassAsked call.now from start rows.old }
+    requires none_yet { Numbered call.now.table.config [] numbers.old }
     ensures { PassRead call.now from start rows.old rows.new result }
 {
     let mut p = Reached::start(from, start);
@@ -116,6 +154,7 @@ pub fn read_pass(
     let mut held: Option<FontWidths<256>> = None;
     let mut how = How::End;
     for (at, s) in Slices::new(call.msg, from) {
+        renumber(numbers, &mut p.state);
         let step = step_at(call, at, s, p.state, blank)?;
         p.at = at + s.len();
         match step {
@@ -124,6 +163,7 @@ pub fn read_pass(
                 blank = b;
             }
             Step::Emit(e, next, b) => {
+                take_number(numbers, e.state);
                 p.looked += store(call, e, &mut held, rows, p.count);
                 p.count += 1;
                 p.state = next;
@@ -145,4 +185,22 @@ pub fn read_pass(
         rect: start.rect,
         reached: p,
     })
+}
+
+// The pass from a place on. Its spans' rows stand first in the slice. A table is cleared only where the groups' numbers count.
+#[tactic(auto, using(crate::proofs::Groups::numbers_none))]
+pub fn read_pass(
+    call: &Call,
+    from: usize,
+    start: RenderState,
+    rows: &mut [Row],
+) -> Result<PassDone, Refusal>
+    requires { PassAsked call.now from start rows.old }
+    ensures { PassRead call.now from start rows.old rows.new result }
+{
+    if !call.table.config.groups {
+        return read_slices(call, from, start, rows, &mut []);
+    }
+    let mut numbers = [0; GROUPS];
+    read_slices(call, from, start, rows, &mut numbers)
 }

@@ -21,14 +21,15 @@ config_with w h t body =
       tags = t;
       capitals = false;
       long_times = false;
+      groups = false;
     }
 
 unfoldable pub config_of : List ℕ → Config
 config_of body = config_with (little_at 2 0 body) (little_at 2 2 body) (little_at 4 11 body) body
 
--- the configuration with the options of the file, which are records of their own (document 02): A4, kind 4; A5, kind 5
-abbrev pub with_options : Bool → Bool → Config → Config
-with_options capitals long c =
+-- the configuration with the options of the file, which are records of their own (document 02): A4, kind 4; A5, kind 5; A6, kind 6
+abbrev pub with_options : Bool → Bool → Bool → Config → Config
+with_options capitals long groups c =
     record {
       width = c.width;
       height = c.height;
@@ -42,6 +43,7 @@ with_options capitals long c =
       tags = c.tags;
       capitals = capitals;
       long_times = long;
+      groups = groups;
     }
 
 -- a width or a height: "1 to 4,096"

@@ -18,7 +18,8 @@ pub struct Record {
 }
 
 // The values of kind 1, and the options, which are records of their own: capitals may stand in for small letters
-// (kind 4), page times may be long (kind 5). Justifications are numbers, as layout's RenderState has them.
+// (kind 4), page times may be long (kind 5), the spans of a group are numbered one after the other (kind 6). Justifications are
+// numbers, as layout's RenderState has them.
 #[derive(Clone, Copy)]
 pub struct Config {
     pub width: u16,
@@ -33,6 +34,7 @@ pub struct Config {
     pub tags: u32,
     pub capitals: bool,
     pub long_times: bool,
+    pub groups: bool,
 }
 
 // Two bytes as a number, the lowest first; 0 for each past the end.
@@ -124,6 +126,7 @@ fn config_in(body: &[u8]) -> Config
         tags: u32::from_le_bytes([body[11], body[12], body[13], body[14]]),
         capitals: false,
         long_times: false,
+        groups: false,
     }
 }
 

@@ -1,7 +1,7 @@
 // Reading a pass: what each value of a message does to the render state, as `render_text_rectangle` has it.
 #![tactic(auto)]
 
-ghost use Rattle.std.specs.Prelude.{◌≡◌, ok_or};
+ghost use Rattle.std.specs.Prelude.{◌≡◌, ◌&&◌, leb, ok_or};
 ghost use Rattle.layout.specs.Read.{entry_of, extent as extent_of, fits as fits_of, rect_of, rect_fits, refusal_at, justified, font_step, span_step, hex_step, new_line_step, spacing_step, rect_step, value_step};
 
 use layout::{Entry, Rect, RenderState, Step, refusal_at};
@@ -106,7 +106,14 @@ impl Here {
         })
     }
 
-    // [nl]: 8 at the 256th line end since its number restarted. A line that is still blank has an empty span.
+    // The group has 255 spans, where they count.
+    fn crowded(self) -> bool
+        ensures { result ≡ (self.c.groups && leb 255 self.st.span) }
+    {
+        self.c.groups && self.st.span == u8::MAX
+    }
+
+    // [nl]: 8 at the 256th line end since its number restarted. A line that is still blank has an empty span: 8 at the 256th of a group.
     fn new_line(self, spacing: Option<u16>) -> Result<Step, Refusal>
         ensures { result ≡ new_line_step self.c self.st self.blank self.p spacing }
     {
@@ -119,6 +126,9 @@ impl Here {
         let next = self.st.with_line(spacing);
         if !self.blank {
             return Ok(Step::Go(next, true));
+        }
+        if self.crowded() {
+            return Err(refusal_at(self.p, 8));
         }
         let e = Entry {
             kind: 2,

@@ -10,10 +10,10 @@ use lib.Seq.{drop-drop}
 use borrow.Author.Tests.{leb-true, ltb-true, ltb-false, eqb-true, not-true, eq-eqb, ne_eqb}
 use Rattle.base.specs.Pick.{pick}
 use Rattle.records.specs.Record.{little_at, body_len, kind_of, whole, first_piece, rest_len, cut_from, Piece, Record, CutShort, pieces, pieces_at}
-use Rattle.records.specs.Config.{not_zero, size_ok, just_ok, bits_ok, tags_ok, config_of, with_options, config_ok, is_config}
+use Rattle.records.specs.Config.{not_zero, size_ok, just_ok, bits_ok, tags_ok, config_of, config_ok, is_config}
 use Rattle.records.proofs.Laws.{Tests, tests, skips, room, bits_known}
 use Rattle.records.specs.declared.Config.{Config}
-use Rattle.sign.specs.Sign.{Character, Font, character_of, font_of, characters_of, fonts_of, has_option, past_option, past_options, config_in, member, Before, NoFont, After, is_font, is_character, bitmap_len, Verdict, Fine, FailsAt, fault_from, first_fault, fault, Accepted, answer, sign_file}
+use Rattle.sign.specs.Sign.{Character, Font, character_of, font_of, characters_of, fonts_of, past_options, optioned, config_in, member, Before, NoFont, After, is_font, is_character, bitmap_len, Verdict, Fine, FailsAt, fault_from, first_fault, fault, Accepted, answer, sign_file}
 use Rattle.sign.specs.Accepted.{Each, each_none, each_more, Apart, apart_none, apart_more, GoodConfig, GoodCharacter, GoodFont, GoodSign, Bytes}
 use Rattle.sign.proofs.Laws.{fonts_other}
 use Rattle.sign.proofs.Options.{options_fonts, options_keep}
@@ -296,11 +296,11 @@ first_good file (CutShort at ∷ ps) h ch e = cc
 first_good file (Record at kind body ∷ ps) h ch e = go (is_config kind body) refl e
   where
     go : (t : Bool) → is_config kind body ≡ t → pick t (fault_from [] NoFont (past_options ps)) (FailsAt at) ≡ Fine
-        → GoodSign file (with_options (has_option 4 ps) (has_option 5 (past_option 4 ps)) (config_of body)) (fonts_of (Record at kind body ∷ ps))
+        → GoodSign file (optioned ps (config_of body)) (fonts_of (Record at kind body ∷ ps))
     go true p q =
         record {
           size = h;
-          config = config_good (with_options (has_option 4 ps) (has_option 5 (past_option 4 ps)) (config_of body)) (unfold config_ok in ok.1.1.0);
+          config = config_good (optioned ps (config_of body)) (unfold config_ok in ok.1.1.0);
           few = rw fonts (omega (arith, r.few));
           apart = rw fonts r.apart;
           each = rw fonts r.each;

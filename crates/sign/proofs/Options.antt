@@ -36,7 +36,9 @@ past_fonts option (Record at kind body ∷ ps) n = go (eqb kind option) (eqb (le
 
 pub options_fonts : (ps : List Piece) → fonts_of (past_options ps) ≡ fonts_of ps
 unfolding past_options
-options_fonts ps = past_fonts 5 (past_option 4 ps) (λ e. omega arith) ∙ past_fonts 4 ps (λ e. omega arith)
+options_fonts ps =
+    past_fonts 6 (past_option 5 (past_option 4 ps)) (λ e. omega arith) ∙ past_fonts 5 (past_option 4 ps) (λ e. omega arith)
+    ∙ past_fonts 4 ps (λ e. omega arith)
 
 -- what holds of records and of those after their first holds of those past the options
 module _ (P : List Piece → Type 0) (tail : (at kind : ℕ) (body : List ℕ) (ps : List Piece) → P (Record at kind body ∷ ps) → P ps) where
@@ -53,7 +55,7 @@ module _ (P : List Piece → Type 0) (tail : (at kind : ℕ) (body : List ℕ) (
 
   pub options_keep : (ps : List Piece) → P ps → P (past_options ps)
   unfolding past_options
-  options_keep ps h = past_keeps 5 (past_option 4 ps) (past_keeps 4 ps h)
+  options_keep ps h = past_keeps 6 (past_option 5 (past_option 4 ps)) (past_keeps 5 (past_option 4 ps) (past_keeps 4 ps h))
 
 -- `past_option`
 module _ (file : List ℕ) (at option : ℕ) where
@@ -97,10 +99,9 @@ module _ (file : List ℕ) (at option : ℕ) where
         yes : has_option option (pieces_at file at) ≡ true
         yes = unfold has_option in rw (next, eq-eqb h.kind option k, eq-eqb (length body) 0 (omega (arith, size)))
 
--- `read_options`
-pub options_on : (file : List ℕ) (from : ℕ) (c d : Config) (at end : ℕ) (r : Result SignFile RefusedAt) → PastOption file from 4 at → PastOption file at 5 end
-    → d ≡ with_options (ltb from at) (ltb at end) c → r ≡ given_from file end d → r ≡ given_after file from c
+-- `read_options`: a is past kind 4, b past kind 5, at past kind 6
+pub options_on : (file : List ℕ) (from a b at : ℕ) (c d : Config) (r : Result SignFile RefusedAt) → PastOption file from 4 a → PastOption file a 5 b
+    → PastOption file b 6 at → d ≡ with_options (ltb from a) (ltb a b) (ltb b at) c → r ≡ given_from file at d → r ≡ given_after file from c
 unfolding given_from given_after past_options
-options_on file from c d at end r o p e f =
-    let ps : List Piece = pieces_at file from in
-    f ∙ rw (p.rest, e, o.has, p.has, o.rest, past_fonts 5 (past_option 4 ps) (λ z. omega arith), past_fonts 4 ps (λ z. omega arith))
+options_on file from a b at c d r o p q e f =
+    f ∙ rw (e, q.has, q.rest, p.has, p.rest, o.has, o.rest, options_fonts (pieces_at file from))

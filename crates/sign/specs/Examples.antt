@@ -1,6 +1,7 @@
 -- Worked sign files, by computation.
 use Rattle.std.specs.Prelude.{ℕ, zero, suc, ◌/◌, ◌%◌, ◌≡◌, refl, List, [], ◌∷◌, ◌++◌, map, Bool, true, false, take}
 use Rattle.records.specs.Record.{little_at, body_len, kind_of, whole, first_piece, rest_len, cut_from, pieces}
+use Rattle.records.specs.declared.Config.{Config}
 use Rattle.records.specs.Config.{config_of, size_ok, just_ok, not_zero, bits_ok, tags_ok, config_ok, is_config}
 use Rattle.sign.specs.Sign.{characters_of, fonts_of, has_option, past_option, past_options, config_in, member, is_font, bitmap_len, is_character, Fine, FailsAt, fault_from, first_fault, fault, Accepted, sign_file}
 
@@ -36,6 +37,7 @@ p_board : sign_file (config ++ font 1 ++ a ++ b ++ bracket)
       tags = 134233320;
       capitals = false;
       long_times = false;
+      groups = false;
     })
     (record {
       number = 1;
@@ -85,28 +87,37 @@ counts = refl
 empty : ℕ → List ℕ
 empty kind = 0 ∷ 0 ∷ kind ∷ 0 ∷ []
 
--- kind 4, kind 5, and both in this order, directly after kind 1, with and without a font after them
+-- kind 4, kind 5, kind 6, and those that follow each other in this order, directly after kind 1, with and without a font after them
 options : map fault
-    ((config ++ empty 4) ∷ (config ++ empty 5) ∷ (config ++ empty 4 ++ empty 5) ∷ (config ++ empty 4 ++ font 1 ++ a) ∷ (config ++ empty 5 ++ font 1)
-    ∷ (config ++ empty 4 ++ empty 5 ++ font 1) ∷ []) ≡ Fine ∷ Fine ∷ Fine ∷ Fine ∷ Fine ∷ Fine ∷ []
+    ((config ++ empty 4) ∷ (config ++ empty 5) ∷ (config ++ empty 6) ∷ (config ++ empty 4 ++ empty 5) ∷ (config ++ empty 4 ++ empty 6)
+    ∷ (config ++ empty 5 ++ empty 6) ∷ (config ++ empty 4 ++ empty 5 ++ empty 6) ∷ (config ++ empty 4 ++ font 1 ++ a) ∷ (config ++ empty 5 ++ font 1)
+    ∷ (config ++ empty 6 ++ font 1) ∷ (config ++ empty 4 ++ empty 5 ++ font 1) ∷ (config ++ empty 4 ++ empty 5 ++ empty 6 ++ font 1) ∷ [])
+    ≡ Fine ∷ Fine ∷ Fine ∷ Fine ∷ Fine ∷ Fine ∷ Fine ∷ Fine ∷ Fine ∷ Fine ∷ Fine ∷ Fine ∷ []
 unfolding fault first_fault past_options past_option has_option fault_from is_character bitmap_len is_font member is_config config_ok tags_ok bits_ok not_zero just_ok
     size_ok config_of pieces cut_from rest_len first_piece whole kind_of body_len little_at config font a empty
 options = refl
 
--- kind 4 twice, kind 5 twice, kind 4 after kind 5, after a font, after a character, first, with a body, cut short twice, and kind 6
+-- kind 4 twice, kind 5 twice, kind 6 twice, kind 4 after kind 5, kind 4 and kind 5 after kind 6, after a font, after a character, first, with a
+-- body, cut short twice
 no_options : map fault
-    ((config ++ empty 4 ++ empty 4 ++ font 1) ∷ (config ++ empty 4 ++ empty 5 ++ empty 5) ∷ (config ++ empty 5 ++ empty 4) ∷ (config ++ font 1 ++ empty 4)
-    ∷ (config ++ font 1 ++ a ++ empty 5) ∷ (empty 4 ++ config) ∷ (config ++ 1 ∷ 0 ∷ 4 ∷ 0 ∷ 0 ∷ []) ∷ (config ++ empty 4 ++ 1 ∷ 0 ∷ 5 ∷ 0 ∷ [])
-    ∷ (config ++ take 3 (empty 4)) ∷ (config ++ empty 4 ++ empty 6) ∷ []) ≡ FailsAt 23 ∷ FailsAt 27 ∷ FailsAt 23 ∷ FailsAt 29 ∷ FailsAt 41
-    ∷ FailsAt 0 ∷ FailsAt 19 ∷ FailsAt 23 ∷ FailsAt 19 ∷ FailsAt 23 ∷ []
+    ((config ++ empty 4 ++ empty 4 ++ font 1) ∷ (config ++ empty 4 ++ empty 5 ++ empty 5) ∷ (config ++ empty 4 ++ empty 6 ++ empty 6)
+    ∷ (config ++ empty 5 ++ empty 4) ∷ (config ++ empty 6 ++ empty 4) ∷ (config ++ empty 4 ++ empty 6 ++ empty 5) ∷ (config ++ font 1 ++ empty 4)
+    ∷ (config ++ font 1 ++ a ++ empty 5) ∷ (config ++ font 1 ++ empty 6) ∷ (empty 4 ++ config) ∷ (config ++ 1 ∷ 0 ∷ 4 ∷ 0 ∷ 0 ∷ [])
+    ∷ (config ++ 1 ∷ 0 ∷ 6 ∷ 0 ∷ 0 ∷ []) ∷ (config ++ empty 4 ++ 1 ∷ 0 ∷ 5 ∷ 0 ∷ []) ∷ (config ++ take 3 (empty 4)) ∷ [])
+    ≡ FailsAt 23 ∷ FailsAt 27 ∷ FailsAt 27 ∷ FailsAt 23 ∷ FailsAt 23 ∷ FailsAt 27 ∷ FailsAt 29 ∷ FailsAt 41 ∷ FailsAt 29 ∷ FailsAt 0 ∷ FailsAt 19
+    ∷ FailsAt 19 ∷ FailsAt 23 ∷ FailsAt 19 ∷ []
 unfolding fault first_fault past_options past_option has_option fault_from is_character bitmap_len is_font member is_config config_ok tags_ok bits_ok not_zero just_ok
     size_ok config_of pieces cut_from rest_len first_piece whole kind_of body_len little_at config font a empty
 no_options = refl
 
--- whether capitals stand in, and whether times may be long
-abbrev flags : List ℕ → Bool × Bool
-flags options = ((config_in (pieces (config ++ options ++ font 1))).capitals, (config_in (pieces (config ++ options ++ font 1))).long_times)
+-- whether capitals stand in, whether times may be long, and whether the spans of a group are numbered one after the other
+abbrev flags : List ℕ → Bool × Bool × Bool
+flags options =
+    let c : Config = config_in (pieces (config ++ options ++ font 1)) in
+    (c.capitals, c.long_times, c.groups)
 
-told : map flags ([] ∷ empty 4 ∷ empty 5 ∷ (empty 4 ++ empty 5) ∷ []) ≡ (false, false) ∷ (true, false) ∷ (false, true) ∷ (true, true) ∷ []
+told : map flags ([] ∷ empty 4 ∷ empty 5 ∷ empty 6 ∷ (empty 4 ++ empty 5) ∷ (empty 4 ++ empty 6) ∷ (empty 5 ++ empty 6) ∷ (empty 4 ++ empty 5 ++ empty 6) ∷ [])
+    ≡ (false, false, false) ∷ (true, false, false) ∷ (false, true, false) ∷ (false, false, true) ∷ (true, true, false) ∷ (true, false, true)
+    ∷ (false, true, true) ∷ (true, true, true) ∷ []
 unfolding config_in has_option past_option config_of pieces cut_from rest_len first_piece whole kind_of body_len little_at config font empty
 told = refl

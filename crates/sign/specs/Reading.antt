@@ -2,10 +2,10 @@
 use Rattle.std.specs.Prelude.{ℕ, ◌+◌, ◌-◌, ◌≤◌, ◌≡◌, List, [], ◌∷◌, ◌++◌, map, Bool, true, false, not, ltb, eqb, length, get_or, take, drop, Option, Some, None, Result, IsSome}
 use Rattle.base.specs.Pick.{pick}
 use Rattle.records.specs.Record.{all, little_at, Piece, Record, CutShort, pieces_at, head_at}
-use Rattle.records.specs.Config.{not_zero, with_options}
+use Rattle.records.specs.Config.{not_zero}
 use Rattle.records.specs.declared.Config.{Config}
 use Rattle.records.specs.declared.Record.{Record as Head}
-use Rattle.sign.specs.Sign.{characters_of, fonts_of, has_option, past_option, past_options, member, Before, NoFont, After, is_character, bitmap_len, Fine, fault_from, answer}
+use Rattle.sign.specs.Sign.{characters_of, fonts_of, has_option, past_option, past_options, optioned, member, Before, NoFont, After, is_character, bitmap_len, Fine, fault_from, answer}
 use Rattle.sign.specs.declared.FontEntry.{FontEntry}
 use Rattle.sign.specs.declared.CharRecord.{CharRecord}
 use Rattle.sign.specs.declared.CharRun.{CharRun}
@@ -50,8 +50,7 @@ given_from file from c =
 unfoldable pub given_after : List ℕ → ℕ → Config → Result SignFile RefusedAt
 given_after file from c =
     given
-    (answer (fault_from [] NoFont (past_options (pieces_at file from)))
-    (with_options (has_option 4 (pieces_at file from)) (has_option 5 (past_option 4 (pieces_at file from))) c) (fonts_of (pieces_at file from)))
+    (answer (fault_from [] NoFont (past_options (pieces_at file from))) (optioned (pieces_at file from) c) (fonts_of (pieces_at file from)))
 
 -- what `past_option` answers: where the records after an option start, or an offset itself if no such option is there
 pub record PastOption (file : List ℕ) (at option r : ℕ) : Type 0 where

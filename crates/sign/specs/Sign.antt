@@ -53,7 +53,7 @@ fonts_of (CutShort at ∷ ps) = fonts_of ps
 fonts_of (Record at kind body ∷ ps) = pick (eqb kind 2) (font_of at body (characters_of ps) ∷ fonts_of ps) (fonts_of ps)
 
 -- Document 02, the options: A4, "an empty record of kind 4, directly after kind 1"; A5, "an empty record of kind 5, directly after kind 1, or
--- after kind 4 if that is there"
+-- after kind 4 if that is there"; A6, "an empty record of kind 6, directly after kind 1 and any of kinds 4 and 5"
 
 -- the records start with the option of a kind: its record is empty
 unfoldable pub has_option : ℕ → List Piece → Bool
@@ -67,13 +67,17 @@ past_option option ps = pick (has_option option ps) (drop 1 ps) ps
 
 -- the records after all options, each of which is there at most once, in the order of their kinds
 unfoldable pub past_options : List Piece → List Piece
-past_options ps = past_option 5 (past_option 4 ps)
+past_options ps = past_option 6 (past_option 5 (past_option 4 ps))
+
+-- a configuration with the options that the records after it start with
+abbrev pub optioned : List Piece → Config → Config
+optioned ps c = with_options (has_option 4 ps) (has_option 5 (past_option 4 ps)) (has_option 6 (past_option 5 (past_option 4 ps))) c
 
 -- the configuration: the first record, with the options after it
 unfoldable pub config_in : List Piece → Config
 config_in [] = config_of []
 config_in (CutShort at ∷ ps) = config_of []
-config_in (Record at kind body ∷ ps) = with_options (has_option 4 ps) (has_option 5 (past_option 4 ps)) (config_of body)
+config_in (Record at kind body ∷ ps) = optioned ps (config_of body)
 
 -- The rules
 

@@ -214,11 +214,13 @@ impl Records<'_> {
     fn read_options(self, c: Config) -> Result<SignFile, RefusedAt>
         ensures { result ≡ given_after self.entry.file.now self.entry.at c }
     {
-        let past = self.past_option(4);
-        let fonts = past.past_option(5);
+        let past_capitals = self.past_option(4);
+        let past_times = past_capitals.past_option(5);
+        let fonts = past_times.past_option(6);
         fonts.read_fonts(Config {
-            capitals: self.at < past.at,
-            long_times: past.at < fonts.at,
+            capitals: self.at < past_capitals.at,
+            long_times: past_capitals.at < past_times.at,
+            groups: past_times.at < fonts.at,
             ..c
         })
     }
