@@ -1,6 +1,8 @@
 """Messages for the case generator. Those for listings are made knowing the sign, so that most are accepted or are
 refused late; those for values hold every tag in right, boundary and slightly wrong forms."""
 
+from signs import model
+
 TEXT_SAMPLES = ("A", "AB", "HELLO", " ", "a", "\u00e9", "\u00ff", "\u0001", "\u0080", "~", "GATE 4", "/", ",")
 ODD_SAMPLES = ("\u0100", "\u20ac", "\U0001f600", "\u0000", "\uffff", "\ud7ff", "\ue000", "\U0010ffff")
 ILL_FORMED = (b"\x80", b"\xff", b"\xc3", b"\xc0\x80", b"\xc1\xbf", b"\xe0\x80\x80", b"\xe0\x9f\xbf", b"\xe2\x82",
@@ -726,6 +728,56 @@ class OptionMaker(Maker):
                 out.append(self.tag("pt", long_time(rng)))
         return "".join(out).encode()
 
+    def groups(self, justifications=(2, 3, 4)):
+        """Short spans in groups that are repeated, left and come back to: [jl] again, [jp] there and back, [nl], [tr]."""
+        rng = self.rng
+        self.restart()
+        out = []
+        lowest = 2  # the line justification of the span before
+        for _ in range(rng.randint(3, 14)):
+            way = rng.random()
+            if way < 0.45:
+                out.append(self.piece(self.sign.width)[0])
+                lowest = self.just_line
+            elif way < 0.68:
+                wanted = [None, self.just_line] + [value for value in justifications if value >= lowest] * 2
+                out.append(self.set_just_line(rng.choice(wanted if self.chance(0.95) else justifications)))
+            elif way < 0.78:
+                out.append(self.new_line())
+                lowest = 2
+            elif way < 0.90:
+                out.append(self.there_and_back())
+            elif way < 0.95:
+                out.append(rng.choice((self.set_font, self.set_spacing))())
+            else:
+                out.append(self.tag("tr", "%d,%d,%d,%d" % self.rectangle()))
+                lowest = 2
+        return "".join(out).encode()
+
+    def there_and_back(self):
+        """[jp] to another justification, and mostly back, where the line begins again; then now and then a text or an empty span."""
+        rng = self.rng
+        here = self.just_page
+        blank = self.tag("nl") if self.chance(0.25) else ""
+        away = self.set_just_page(rng.choice([value for value in (2, 3, 4) if value != here]))
+        if self.chance(0.15):
+            return away
+        back = self.set_just_page(here)
+        return blank + away + back + rng.choice(("", self.piece(self.sign.width)[0], self.tag("nl") if blank else ""))
+
+    def crowd(self, justifications=(2, 3, 4)):
+        """A group of 254 to 257 spans, by repeated [jl] or [jp] there and back, the last of them now and then empty."""
+        rng = self.rng
+        count = rng.choice((254, 255, 256, 257))
+        just = rng.choice(justifications)
+        again = rng.choice(("[jl%d]" % just, "", "[fo]"))
+        there = rng.choice(("", "[jp%d][jp%d]" % (3 if self.sign.just_page == 2 else 2, self.sign.just_page)))
+        first = rng.randint(1, count)
+        tail = rng.choice(("", "", "[nl][jp%d][jp%d][nl]" % (3 if self.sign.just_page == 2 else 2, self.sign.just_page), "[nl][["))
+        if self.chance(0.25):
+            return b"[[" + b"[nl]" * rng.choice((254, 255, 256, 257)) + b"[["
+        return ("[jl%d]" % just + (again + "[[") * first + there + (again + "[[") * (count - first) + tail).encode()
+
     def words_of_any(self, most):
         """A few letters of the sign's own font."""
         self.restart()
@@ -733,6 +785,8 @@ class OptionMaker(Maker):
 
     def message(self):
         ways = [(Maker.message, self, 4), (Maker.message, self.typed, 4), (OptionMaker.small, self, 3), (OptionMaker.times, self, 3)]
+        if model.GROUP_NUMBERS in self.sign.options:
+            ways += [(OptionMaker.groups, self, 14), (OptionMaker.crowd, self, 3)]
         way, maker, _ = self.rng.choices(ways, [weight for _, _, weight in ways])[0]
         return way(maker)
 
