@@ -73,6 +73,14 @@ fn wide() -> Vec<u8> {
     with_ids(s)
 }
 
+/// The same with numbers by group (kind 6, which the oracle leaves out)
+fn grouped() -> Vec<u8> {
+    let mut s = configuration(4096, 54);
+    s.extend(record(6, &[]));
+    s.extend(font(1, 7, 0, 1, 1..257));
+    with_ids(s)
+}
+
 /// A high sign on which 250 lines fit
 fn high() -> Vec<u8> {
     let mut s = configuration(64, 2600);
@@ -125,6 +133,8 @@ pub fn inputs() -> Vec<Input> {
         message,
     };
     let (small, full, wide, high) = (small(), full(), wide(), high());
+    let grouped = grouped();
+    let five = ("A[[".repeat(120) + "[nl]").repeat(5);
     let to_and_fro = "A[nl]A[jp3][jp2]";
     let line = "A[[A[[A[nl]";
     vec![
@@ -138,6 +148,8 @@ pub fn inputs() -> Vec<Input> {
         of("spans", "300 spans in a pass", &wide, spans(300)),
         of("spans", "600 spans in a pass", &wide, spans(600)),
         of("spans", "1,200 spans in a pass", &wide, spans(1_200)),
+        of("", "1,200 spans on five lines", &wide, five.clone()),
+        of("", "1,200 spans on five lines, kind 6", &grouped, five),
         of("again", "80 spans of one number", &wide, "A[jl2]".repeat(80)),
         of("again", "160 spans of one number", &wide, "A[jl2]".repeat(160)),
         of("again", "320 spans of one number", &wide, "A[jl2]".repeat(320)),
