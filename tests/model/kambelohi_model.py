@@ -700,18 +700,22 @@ class State:
         self.rectangle = rectangle
         self.line = 0
         self.number = 0
-        self.grouped = []  # of each span of the pass: page justification, line, line justification
+        self.last = {}  # the number of each group's last span in this pass
+
+    def group(self):
+        """'Spans of one pass sharing page justification, line and line justification form a group'"""
+        return self.just_page, self.line, self.just_line
 
     def next_number(self):
-        """A6: 'a span's number, an empty span's too, is 0 if its group has none yet, and otherwise one above the group's last'; these
-        are the group's spans so far. Without the record it is the number that counts on."""
-        if GROUP_NUMBERS in self.sign.options:
-            return self.grouped.count((self.just_page, self.line, self.just_line))
-        return self.number
+        """A6: 'a span's number, an empty span's too, is 0 if its group has none yet, and otherwise one above the group's last'.
+        Without the record it is the number that counts on."""
+        if GROUP_NUMBERS not in self.sign.options:
+            return self.number
+        return self.last[self.group()] + 1 if self.group() in self.last else 0
 
     def span(self, kind, start, length, code, codes):
         number = self.next_number()
-        self.grouped.append((self.just_page, self.line, self.just_line))
+        self.last[self.group()] = number
         return Span(kind, start, length, code, codes, self.font, self.version, self.char_spacing, self.line_spacing,
                     self.just_page, self.just_line, self.line, number)
 
