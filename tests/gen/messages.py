@@ -910,10 +910,13 @@ class GroupsMaker:
     def other_just(self):
         return self.just(self.rng.choice((self.line_just, 2, 3, 4)))
 
-    def message(self):
-        rng = self.rng
+    def begin(self):
         self.page, self.line, self.line_just = self.sign.just_page, 0, self.sign.just_line
         self.last = (0, 0, 0)
+
+    def message(self):
+        rng = self.rng
+        self.begin()
         ways = (self.span, self.other_just, self.turn, self.page_on, self.new_line, self.set_spacing)
         weights = rng.choice(((50, 15, 10, 3, 12, 10), (60, 25, 5, 0, 5, 5), (50, 5, 25, 1, 19, 0), (85, 5, 3, 1, 5, 1)))
         count = rng.choice((4, 10, 25, 60, 150))
@@ -921,3 +924,23 @@ class GroupsMaker:
         if rng.random() < 0.05:
             parts.insert(rng.randint(0, count), rng.choice(("Z", "[fo9]A", "[tr1,1,0,0]", "[np]", "[tr1,1,9,9]")))
         return "".join(parts).encode()[:2048]
+
+
+class NumberedMaker(GroupsMaker):
+    """The same for a board with kind 6 (document 02, A6): every mix of [jl], [jp], [nl] and [tr] between spans, each as often."""
+
+    def rectangle(self):
+        """[tr] to the sign's edge, on the grid of a roomy sign: its groups begin anew, and the page justification may go back."""
+        rng = self.rng
+        self.line, self.last = 0, (0, 0, 0)
+        return "[tr%d,%d,0,0]" % (rng.choice((1, 1, 3, 9)), rng.choice((1, 1, 2, 7)))
+
+    def message(self):
+        rng = self.rng
+        self.begin()
+        mixed = (self.other_just,), (self.turn, self.turn, self.page_on), (self.new_line,), (self.rectangle,)
+        chosen = [ways for ways in mixed if rng.random() < 0.5]
+        spans = rng.choice((1, 2, 4))
+        ways = [rng.choice(rng.choice(chosen)) if chosen and rng.random() * (spans + 1) > spans else self.span
+                for _ in range(rng.choice((4, 10, 25, 60, 150)))]
+        return "".join(self.set_spacing() + way() if rng.random() < 0.05 else way() for way in ways).encode()[:2048]
