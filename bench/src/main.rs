@@ -143,7 +143,8 @@ fn timed(input: &Input, shown: &mut [Shown], spans: &mut [Span]) -> Timed {
     Timed { series: input.series, name: input.name, reading, listing, whole, first }
 }
 
-/// How much longer each input of a series takes than the one before it
+/// How much longer each input of a series takes than the one before it: of
+/// half its size, or the same without kind 6
 fn growth(all: &[Timed]) {
     println!();
     println!("| from | to | reading, ours | the Rust's | listing, ours | in one call | the Rust's | first answer, ours |");
