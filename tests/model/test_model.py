@@ -602,6 +602,10 @@ class GroupNumbers(unittest.TestCase):
         # an empty span counts
         shown = records("[nl][jp3][jp2]AB[nl]A", self.wide)
         self.assertEqual([(r.kind, r.line, r.span, r.x) for r in shown], [(2, 0, 0, 0), (0, 0, 1, 2), (0, 1, 0, 0)])
+        # so that the next one stands behind it, an empty one too
+        self.assertEqual([r.span for r in records("[nl][jp3][jp2][nl]A", self.wide)], [0, 1, 0])
+        # lines of one number in two page justifications are two groups
+        self.assertEqual([r.span for r in records("A[jp3]B[nl]A[jp4]B[jl]A", self.wide)], [0, 0, 0, 0, 1])
         # a [jl] that is gone back from is refused with 9, as before
         self.assertEqual(last("A[jl4]B[jl2]A", self.board), ("refused", 9, 12, 1, 0))
         # messages without a repeated justification are as without the record
