@@ -96,7 +96,8 @@ enum {
     KAMBELOHI_BAD_CODE = 7,          /* "text has a character no board can show"; a code point outside 1 to 255; place of the
                                         slice */
     KAMBELOHI_TOO_MANY = 8,          /* "too many lines, or texts in one line"; the 256th line end or span since its number
-                                        restarted; place of the slice */
+                                        restarted; where the sign file numbers the spans of a group one after the other (a
+                                        record of kind 6), the 256th of a group; place of the slice */
     KAMBELOHI_GOES_BACK = 9,         /* "justification goes back, change order"; place of the span */
     KAMBELOHI_NO_FONT = 10,          /* "font is not on this board"; detail: its number; place of the span */
     KAMBELOHI_FONT_VERSION = 11,     /* "font has another version on this board"; its version id differs; place of the span */

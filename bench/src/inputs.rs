@@ -73,6 +73,14 @@ fn wide() -> Vec<u8> {
     with_ids(s)
 }
 
+/// The same with numbers by group (kind 6, which the oracle leaves out)
+fn grouped() -> Vec<u8> {
+    let mut s = configuration(4096, 54);
+    s.extend(record(6, &[]));
+    s.extend(font(1, 7, 0, 1, 1..257));
+    with_ids(s)
+}
+
 /// A high sign on which 250 lines fit
 fn high() -> Vec<u8> {
     let mut s = configuration(64, 2600);
@@ -125,6 +133,8 @@ pub fn inputs() -> Vec<Input> {
         message,
     };
     let (small, full, wide, high) = (small(), full(), wide(), high());
+    let grouped = grouped();
+    let five = ("A[[".repeat(120) + "[nl]").repeat(5);
     let to_and_fro = "A[nl]A[jp3][jp2]";
     let line = "A[[A[[A[nl]";
     vec![
@@ -138,15 +148,19 @@ pub fn inputs() -> Vec<Input> {
         of("spans", "300 spans in a pass", &wide, spans(300)),
         of("spans", "600 spans in a pass", &wide, spans(600)),
         of("spans", "1,200 spans in a pass", &wide, spans(1_200)),
+        of("kind 6", "1,200 spans on five lines", &wide, five.clone()),
+        of("kind 6", "1,200 spans on five lines, kind 6", &grouped, five),
         of("again", "80 spans of one number", &wide, "A[jl2]".repeat(80)),
         of("again", "160 spans of one number", &wide, "A[jl2]".repeat(160)),
         of("again", "320 spans of one number", &wide, "A[jl2]".repeat(320)),
         of("nine", "9 groups of 32 spans on a line", &wide, nine(32)),
         of("nine", "9 groups of 64 spans on a line", &wide, nine(64)),
         of("nine", "9 groups of 128 spans on a line", &wide, nine(128)),
+        of("nine", "9 groups of 128 spans on a line, kind 6", &grouped, nine(128)),
         of("fro", "32 times to and fro between groups", &wide, to_and_fro.repeat(32)),
         of("fro", "64 times to and fro between groups", &wide, to_and_fro.repeat(64)),
         of("fro", "128 times to and fro between groups", &wide, to_and_fro.repeat(128)),
+        of("fro", "128 times to and fro between groups, kind 6", &grouped, to_and_fro.repeat(128)),
         of("lines", "60 lines", &high, "A[nl]".repeat(60)),
         of("lines", "120 lines", &high, "A[nl]".repeat(120)),
         of("lines", "240 lines", &high, "A[nl]".repeat(240)),

@@ -165,7 +165,8 @@ fn timed(
     }
 }
 
-/// How much longer each input of a series takes than the one before it
+/// How much longer each input of a series takes than the one before it: of
+/// half its size, or the same without kind 6
 fn growth(all: &[Timed]) {
     println!();
     println!("| from | to | reading, ours | in one call | the Rust's | listing, ours | in one call | the Rust's | first answer, ours |");

@@ -403,6 +403,25 @@ static void worked_boards(lent p) {
           "1 30 1 0 0 0 0; (t 0 1 0, 0 0 5 7, 1 0 0, 1 1 50 24)4 0 0 10 10 1 9;");
 }
 
+/* Document 02, A6: numbers by group, on board P with a record of kind 6 behind that of kind 1. */
+static void group_numbers(lent p) {
+    static uint8_t whole[ROOM];
+    static const uint8_t kind_6[] = {0, 0, 6, 0};
+    enum { KIND_1 = 19 };
+    memcpy(whole, p.at, KIND_1);
+    memcpy(whole + KIND_1, kind_6, sizeof kind_6);
+    memcpy(whole + KIND_1 + sizeof kind_6, p.at + KIND_1, p.len - KIND_1);
+    p = lend(file_end, whole, p.len + sizeof kind_6);
+    lists("a justification again", p, lend_text("A[jl2]B"),
+          "1 30 2 0 0 0 0; (t 0 1 0, 0 0 5 7, 1 0 0, 1 1 50 24) (t 6 1 0, 7 0 6 7, 1 0 1, 1 1 50 24)3 0 1 0 0 0 0;");
+    lists("a group that is come back to", p, lend_text("A[nl]B[jp3][jp2]B"),
+          "1 30 3 0 0 0 0; (t 0 1 0, 0 0 5 7, 1 0 0, 1 1 50 24) (t 5 1 0, 0 10 6 7, 1 1 0, 1 1 50 24)"
+          " (t 16 1 0, 7 0 6 7, 1 0 1, 1 1 50 24)3 0 1 0 0 0 0;");
+    refuses("256 spans in a group", p, lend_times(256, "[jl2][["), KAMBELOHI_TOO_MANY, 1790, 2, 0);
+    whole[KIND_1 + 2] = 7;
+    refuses("no such kind", lend(file_end, whole, p.len), lend_text("A"), KAMBELOHI_SIGN_FILE, KIND_1, 0, 0);
+}
+
 /* Document 02, A9: both counts, which are 0 for off, the end and a refusal. */
 static void page_counts(lent p) {
     counts("nothing to count", p, lend_text(""), 0, KAMBELOHI_ON, 0, 0);
@@ -725,6 +744,7 @@ int main(int argc, char **argv) {
     readings_end = fence();
     buffer_end = fence();
     worked_boards(lend(file_end, sign, len));
+    group_numbers(lend(file_end, sign, len));
     page_counts(lend(file_end, sign, len));
     list_refusals(lend(file_end, sign, len));
     short_slices(lend(file_end, sign, len));

@@ -64,6 +64,8 @@ def options_of(sign):
 
 def compare_listings(one, other, message, sign):
     """None where they agree, a row of the table where one side has no answer, else False."""
+    if model.GROUP_NUMBERS in options_of(sign):
+        return ("kind 6", "not compared")  # A6: "Only the others compare with the Rust."
     left, right = streams.steps(one), streams.steps(other)
     for place in range(max(len(left), len(right))):
         a = left[place] if place < len(left) else None

@@ -104,6 +104,9 @@ def sign_block(rng, room):
 
 def options_block(rng, room):
     """An S line of a board with option records, right or wrong, and some cases on it, as (line, is a case)."""
+    if rng.random() < 0.06:
+        yield from numbered_block(rng, room)
+        return
     plan = signs.option_sign(rng, wrong_version=rng.random() < 0.01)
     if rng.random() < 0.65:
         data = signs.damaged_options(rng, plan)
@@ -134,5 +137,15 @@ def groups_block(rng, room):
     plan = signs.roomy_sign(rng)
     yield "S " + word(plan.data()), False
     maker = messages.GroupsMaker(rng, plan)
+    for _ in range(min(rng.randint(10, 30), room)):
+        yield "L " + word(maker.message()), True
+
+
+def numbered_block(rng, room):
+    """An S line of a roomy board with kind 6, and some cases of many groups on it, as (line, is a case)."""
+    plan = signs.roomy_sign(rng)
+    plan.options = rng.choice([kinds for kinds in signs.option_sets() if signs.model.GROUP_NUMBERS in kinds])
+    yield "S " + word(plan.data()), False
+    maker = messages.NumberedMaker(rng, plan)
     for _ in range(min(rng.randint(10, 30), room)):
         yield "L " + word(maker.message()), True

@@ -1,6 +1,8 @@
 """Messages for the case generator. Those for listings are made knowing the sign, so that most are accepted or are
 refused late; those for values hold every tag in right, boundary and slightly wrong forms."""
 
+from signs import model
+
 TEXT_SAMPLES = ("A", "AB", "HELLO", " ", "a", "\u00e9", "\u00ff", "\u0001", "\u0080", "~", "GATE 4", "/", ",")
 ODD_SAMPLES = ("\u0100", "\u20ac", "\U0001f600", "\u0000", "\uffff", "\ud7ff", "\ue000", "\U0010ffff")
 ILL_FORMED = (b"\x80", b"\xff", b"\xc3", b"\xc0\x80", b"\xc1\xbf", b"\xe0\x80\x80", b"\xe0\x9f\xbf", b"\xe2\x82",
@@ -726,6 +728,56 @@ class OptionMaker(Maker):
                 out.append(self.tag("pt", long_time(rng)))
         return "".join(out).encode()
 
+    def groups(self, justifications=(2, 3, 4)):
+        """Short spans in groups that are repeated, left and come back to: [jl] again, [jp] there and back, [nl], [tr]."""
+        rng = self.rng
+        self.restart()
+        out = []
+        lowest = 2  # the line justification of the span before
+        for _ in range(rng.randint(3, 14)):
+            way = rng.random()
+            if way < 0.45:
+                out.append(self.piece(self.sign.width)[0])
+                lowest = self.just_line
+            elif way < 0.68:
+                wanted = [None, self.just_line] + [value for value in justifications if value >= lowest] * 2
+                out.append(self.set_just_line(rng.choice(wanted if self.chance(0.95) else justifications)))
+            elif way < 0.78:
+                out.append(self.new_line())
+                lowest = 2
+            elif way < 0.90:
+                out.append(self.there_and_back())
+            elif way < 0.95:
+                out.append(rng.choice((self.set_font, self.set_spacing))())
+            else:
+                out.append(self.tag("tr", "%d,%d,%d,%d" % self.rectangle()))
+                lowest = 2
+        return "".join(out).encode()
+
+    def there_and_back(self):
+        """[jp] to another justification, and mostly back, where the line begins again; then now and then a text or an empty span."""
+        rng = self.rng
+        here = self.just_page
+        blank = self.tag("nl") if self.chance(0.25) else ""
+        away = self.set_just_page(rng.choice([value for value in (2, 3, 4) if value != here]))
+        if self.chance(0.15):
+            return away
+        back = self.set_just_page(here)
+        return blank + away + back + rng.choice(("", self.piece(self.sign.width)[0], self.tag("nl") if blank else ""))
+
+    def crowd(self, justifications=(2, 3, 4)):
+        """A group of 254 to 257 spans, by repeated [jl] or [jp] there and back, the last of them now and then empty."""
+        rng = self.rng
+        count = rng.choice((254, 255, 256, 257))
+        just = rng.choice(justifications)
+        again = rng.choice(("[jl%d]" % just, "", "[fo]"))
+        there = rng.choice(("", "[jp%d][jp%d]" % (3 if self.sign.just_page == 2 else 2, self.sign.just_page)))
+        first = rng.randint(1, count)
+        tail = rng.choice(("", "", "[nl][jp%d][jp%d][nl]" % (3 if self.sign.just_page == 2 else 2, self.sign.just_page), "[nl][["))
+        if self.chance(0.25):
+            return b"[[" + b"[nl]" * rng.choice((254, 255, 256, 257)) + b"[["
+        return ("[jl%d]" % just + (again + "[[") * first + there + (again + "[[") * (count - first) + tail).encode()
+
     def words_of_any(self, most):
         """A few letters of the sign's own font."""
         self.restart()
@@ -733,6 +785,8 @@ class OptionMaker(Maker):
 
     def message(self):
         ways = [(Maker.message, self, 4), (Maker.message, self.typed, 4), (OptionMaker.small, self, 3), (OptionMaker.times, self, 3)]
+        if model.GROUP_NUMBERS in self.sign.options:
+            ways += [(OptionMaker.groups, self, 14), (OptionMaker.crowd, self, 3)]
         way, maker, _ = self.rng.choices(ways, [weight for _, _, weight in ways])[0]
         return way(maker)
 
@@ -856,10 +910,13 @@ class GroupsMaker:
     def other_just(self):
         return self.just(self.rng.choice((self.line_just, 2, 3, 4)))
 
-    def message(self):
-        rng = self.rng
+    def begin(self):
         self.page, self.line, self.line_just = self.sign.just_page, 0, self.sign.just_line
         self.last = (0, 0, 0)
+
+    def message(self):
+        rng = self.rng
+        self.begin()
         ways = (self.span, self.other_just, self.turn, self.page_on, self.new_line, self.set_spacing)
         weights = rng.choice(((50, 15, 10, 3, 12, 10), (60, 25, 5, 0, 5, 5), (50, 5, 25, 1, 19, 0), (85, 5, 3, 1, 5, 1)))
         count = rng.choice((4, 10, 25, 60, 150))
@@ -867,3 +924,23 @@ class GroupsMaker:
         if rng.random() < 0.05:
             parts.insert(rng.randint(0, count), rng.choice(("Z", "[fo9]A", "[tr1,1,0,0]", "[np]", "[tr1,1,9,9]")))
         return "".join(parts).encode()[:2048]
+
+
+class NumberedMaker(GroupsMaker):
+    """The same for a board with kind 6 (document 02, A6): every mix of [jl], [jp], [nl] and [tr] between spans, each as often."""
+
+    def rectangle(self):
+        """[tr] to the sign's edge, on the grid of a roomy sign: its groups begin anew, and the page justification may go back."""
+        rng = self.rng
+        self.line, self.last = 0, (0, 0, 0)
+        return "[tr%d,%d,0,0]" % (rng.choice((1, 1, 3, 9)), rng.choice((1, 1, 2, 7)))
+
+    def message(self):
+        rng = self.rng
+        self.begin()
+        mixed = (self.other_just,), (self.turn, self.turn, self.page_on), (self.new_line,), (self.rectangle,)
+        chosen = [ways for ways in mixed if rng.random() < 0.5]
+        spans = rng.choice((1, 2, 4))
+        ways = [rng.choice(rng.choice(chosen)) if chosen and rng.random() * (spans + 1) > spans else self.span
+                for _ in range(rng.choice((4, 10, 25, 60, 150)))]
+        return "".join(self.set_spacing() + way() if rng.random() < 0.05 else way() for way in ways).encode()[:2048]

@@ -1,7 +1,9 @@
 """What the option records of sign files (document 02) and the listings on them are like, in words that are counted."""
 
+import itertools
 import re
 
+import groups
 import signs
 from signs import model
 
@@ -69,6 +71,40 @@ def at_page_time(message, ending, words):
             yield words
 
 
+def mixes():
+    """Every mix of [jl], [jp], [nl] and [tr] in which a group can be numbered otherwise than without kind 6: it has a [jl] or a [jp]."""
+    for count in (1, 2, 3, 4):
+        for names in itertools.combinations(("jl", "jp", "nl", "tr"), count):
+            if names[0] in ("jl", "jp"):
+                yield names
+
+
+def mix_of(message):
+    return tuple(name for name in ("jl", "jp", "nl", "tr") if b"[" + name.encode() in message.lower())
+
+
+def of_groups(data, message, ending):
+    """A6: whether the listing is another than without kind 6, with which mix of tags where it comes to its end, and what refusal 8
+    counted."""
+    plain = model.listing_answer(groups.without(data, model.GROUP_NUMBERS), message)
+    with_record = model.listing_answer(data, message)
+    yield "groups, %s without kind 6" % ("as" if plain == with_record else "otherwise than")
+    if plain != with_record and ending[0] == "3":
+        yield "groups, listed otherwise with " + " ".join(mix_of(message))
+    if ending[:2] == ["4", "8"]:
+        start, length = int(ending[2]), int(ending[3])
+        if message[start:start + 3].lower() != b"[nl":
+            yield "groups, 8 at a group's 256th span"
+        else:
+            yield "groups, 8 at a line end" if plain[-1] == " ".join(ending) else "groups, 8 at an empty span"
+    for _, _, group in groups.groups(data, message):
+        starts = [stood.record.start for stood in group]
+        if len(group) > 1 and b"[jp" in message[starts[0]:starts[-1]].lower():
+            yield "groups, left and come back to"
+        if len(group) > 1 and any(stood.record.kind == model.EMPTY for stood in group):
+            yield "groups, an empty span among others"
+
+
 def features(data, message, steps):
     """What a listing has of options; data is the sign file, steps the listing's answer."""
     ending = steps[-1].words
@@ -87,6 +123,8 @@ def features(data, message, steps):
         found |= set(of_times(data, message, steps))
     else:
         found |= set(at_page_time(message, ending, "[pt] above 255 refused without kind 5"))
+    if model.GROUP_NUMBERS in sign.options:
+        found |= set(of_groups(data, message, ending))
     return found
 
 
@@ -100,4 +138,8 @@ def wanted():
               "12 of a letter that has neither form"]
     found += ["long times, none above 255", "long times, a time above 255", "long times, on 65535", "long times, off 65535",
               "long times, [pt] above 65535 refused", "[pt] above 255 refused without kind 5"]
+    found += ["groups, as without kind 6", "groups, otherwise than without kind 6", "groups, 8 at a group's 256th span",
+              "groups, 8 at an empty span", "groups, 8 at a line end", "groups, left and come back to",
+              "groups, an empty span among others"]
+    found += ["groups, listed otherwise with " + " ".join(names) for names in mixes()]
     return found

@@ -439,8 +439,9 @@ Sign = namedtuple("Sign", "width height char_width char_height font just_line ju
 
 # A4: "an empty record of kind 4, directly after kind 1"
 # A5: "an empty record of kind 5, directly after kind 1, or after kind 4 if that is there"
-CAPITALS, LONG_TIMES = 4, 5
-OPTIONS = (CAPITALS, LONG_TIMES)  # in the order that they have in a file
+# A6: "an empty record of kind 6, directly after kind 1 and any of kinds 4 and 5"
+CAPITALS, LONG_TIMES, GROUP_NUMBERS = 4, 5, 6
+OPTIONS = (CAPITALS, LONG_TIMES, GROUP_NUMBERS)  # in the order that they have in a file
 
 # "where only fo, hc, jl, jp, nl, np, pt, sc and tr may be set"
 ALLOWED_TAGS = sum(1 << BITS[name] for name in ("fo", "hc", "jl", "jp", "nl", "np", "pt", "sc", "tr"))
@@ -699,10 +700,24 @@ class State:
         self.rectangle = rectangle
         self.line = 0
         self.number = 0
+        self.last = {}  # the number of each group's last span in this pass
+
+    def group(self):
+        """'Spans of one pass sharing page justification, line and line justification form a group'"""
+        return self.just_page, self.line, self.just_line
+
+    def next_number(self):
+        """A6: 'a span's number, an empty span's too, is 0 if its group has none yet, and otherwise one above the group's last'.
+        Without the record it is the number that counts on."""
+        if GROUP_NUMBERS not in self.sign.options:
+            return self.number
+        return self.last[self.group()] + 1 if self.group() in self.last else 0
 
     def span(self, kind, start, length, code, codes):
+        number = self.next_number()
+        self.last[self.group()] = number
         return Span(kind, start, length, code, codes, self.font, self.version, self.char_spacing, self.line_spacing,
-                    self.just_page, self.just_line, self.line, self.number)
+                    self.just_page, self.just_line, self.line, number)
 
 
 def rectangle_on_sign(sign, x, y, width, height):
@@ -756,6 +771,9 @@ def passes(sign, page, state):
             if state.line == MOST_NUMBERED:
                 raise too_many
             if blank:
+                # A6: "Refusal 8 then counts a group's spans, and line ends as before."
+                if GROUP_NUMBERS in sign.options and state.next_number() == MOST_NUMBERED:
+                    raise too_many
                 # "[nl] on a still blank line lists an empty span"; "Kind 2 starts at its [nl], length 0."
                 spans.append(state.span(EMPTY, item.start, 0, 0, []))
             blank = True  # the next line is blank again
@@ -769,17 +787,16 @@ def passes(sign, page, state):
         elif name == "SpacingCharacterEnd":
             state.char_spacing = None
         elif name in ("Text", "HexadecimalCharacter"):
+            if name == "HexadecimalCharacter" and 0xD800 <= data <= 0xDFFF:
+                raise bad  # "[hc] D800 to DFFF hexadecimal"
+            if state.next_number() == MOST_NUMBERED:
+                raise too_many
             if name == "Text":
                 # "Kind 0 from [[ or ]] has the slice's start and length 1."
-                span = state.span(TEXT, item.start, item.value.numbers[1], 0, data)
+                spans.append(state.span(TEXT, item.start, item.value.numbers[1], 0, data))
             else:
-                if 0xD800 <= data <= 0xDFFF:
-                    raise bad  # "[hc] D800 to DFFF hexadecimal"
                 # "Kind 1 covers its tag."
-                span = state.span(HEXADECIMAL, item.start, item.length, data, [data])
-            if state.number == MOST_NUMBERED:
-                raise too_many
-            spans.append(span)
+                spans.append(state.span(HEXADECIMAL, item.start, item.length, data, [data]))
             state.number += 1
             blank = False  # "a text or [hc] ends the blank"; "the blank mark is not reset by [jp]"
         elif name == "TextRectangle":

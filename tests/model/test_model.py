@@ -576,6 +576,63 @@ class LongTimes(unittest.TestCase):
         self.assertEqual(model.values_answer(b"\xff", True), ["4 3 0 0 0"])
 
 
+class GroupNumbers(unittest.TestCase):
+    """Request A6 of document 02."""
+
+    def setUp(self):
+        self.board = configuration() + record(6, b"") + font()
+        self.wide = configuration(width=4096, height=4096) + record(6, b"") + font()
+
+    def numbered(self, message, sign=None):
+        return [(r.x, r.line, r.span) for r in records(message, sign or self.board)]
+
+    def test_worked(self):
+        self.assertEqual(self.numbered("A[jl2]B"), [(0, 0, 0), (7, 0, 1)])
+        self.assertEqual(self.numbered("A[nl]B[jp3][jp2]B"), [(0, 0, 0), (0, 1, 0), (7, 0, 1)])
+        # 256 spans in one group
+        self.assertEqual(last("[jl2][[" * 255, self.wide), ("end", 1))
+        self.assertEqual(last("[jl2][[" * 256, self.wide), ("refused", 8, 255 * 7 + 5, 2, 0))
+        self.assertEqual(self.numbered("A[jl2]B", BOARD_P), [(2, 0, 0), (2, 0, 0)])
+
+    def test_numbers(self):
+        self.assertEqual(self.numbered("A[jl]B[jl3]A[jl3]B[jl4]A[jl4]B"), [
+            (0, 0, 0), (7, 0, 1), (18, 0, 0), (25, 0, 1), (37, 0, 0), (44, 0, 1)])
+        # left and come back to, on another line and in another pass
+        self.assertEqual([r.span for r in records("A[jl3]A[nl][jl2]A[jl3]A[jl3]A[tr1,1,0,0]A[jl3]A", self.wide)], [0, 0, 0, 0, 1, 0, 1])
+        # an empty span counts
+        shown = records("[nl][jp3][jp2]AB[nl]A", self.wide)
+        self.assertEqual([(r.kind, r.line, r.span, r.x) for r in shown], [(2, 0, 0, 0), (0, 0, 1, 2), (0, 1, 0, 0)])
+        # so that the next one stands behind it, an empty one too
+        self.assertEqual([r.span for r in records("[nl][jp3][jp2][nl]A", self.wide)], [0, 1, 0])
+        # lines of one number in two page justifications are two groups
+        self.assertEqual([r.span for r in records("A[jp3]B[nl]A[jp4]B[jl]A", self.wide)], [0, 0, 0, 0, 1])
+        # a [jl] that is gone back from is refused with 9, as before
+        self.assertEqual(last("A[jl4]B[jl2]A", self.board), ("refused", 9, 12, 1, 0))
+        # messages without a repeated justification are as without the record
+        for message in ("AB", "A[sc4]B", "[[A", "A[nl]B", "[jl4]A[fo]B", "A[jl3]B[jl4]A[nl]B", "[jp3]A[nl][nl]B"):
+            self.assertEqual(model.listing(self.wide, message.encode()),
+                             model.listing(configuration(width=4096, height=4096) + font(), message.encode()))
+
+    def test_eight(self):
+        # a span's number no longer starts again
+        plain = configuration(width=4096, height=4096) + font()
+        self.assertEqual(last("[[" * 255 + "[jl2][[", plain), ("end", 1))
+        self.assertEqual(last("[[" * 255 + "[jl2][[", self.wide), ("refused", 8, 515, 2, 0))
+        self.assertEqual(last("[[" * 255 + "[jl3][[", self.wide), ("end", 1))
+        self.assertEqual(last("[[" * 255 + "[jp3][jp2][[", plain), ("end", 1))
+        self.assertEqual(last("[[" * 255 + "[jp3][jp2][[", self.wide), ("refused", 8, 520, 2, 0))
+        self.assertEqual(last("[[" * 255 + "[tr1,1,0,0]" + "[[" * 255, self.wide), ("end", 1))
+        self.assertEqual(last("[[" * 255 + "[nl]" + "[[" * 255, self.wide), ("end", 1))
+        # an empty span can be a group's 256th; its place is its slice's
+        self.assertEqual(last("[[" * 255 + "[nl][jp3][jp2][nl]", self.wide), ("refused", 8, 524, 4, 0))
+        self.assertEqual(last("[[" * 254 + "[nl][jp3][jp2][nl]", self.wide), ("end", 1))
+        self.assertEqual(last("[[" * 255 + "[nl][jp3][jp2][nl]", plain), ("end", 1))
+        # line ends as before
+        self.assertEqual(last("[nl]" * 255, self.wide), ("end", 1))
+        self.assertEqual(last("[nl]" * 256, self.wide), ("refused", 8, 1020, 4, 0))
+        self.assertEqual(last("[hc41]" * 255 + "[hcd800]", self.wide), ("refused", 6, 1530, 8, 0))
+
+
 class SignFiles(unittest.TestCase):
     def refused(self, data, start):
         with self.assertRaises(model.Refusal) as caught:
@@ -612,7 +669,7 @@ class SignFiles(unittest.TestCase):
         self.refused(record(1, configuration()[4:] + b"\0"), 0)
         self.refused(font() + configuration(), 0)
         self.refused(configuration() + configuration(), 19)
-        for kind in (0, 6, 7, 256, 257, 260, 65535):
+        for kind in (0, 7, 256, 257, 260, 65535):
             self.refused(configuration() + record(kind, b""), 19)
 
     def test_options(self):
@@ -650,8 +707,12 @@ class SignFiles(unittest.TestCase):
         self.refused(joined(4, 5, 4), 27)
         self.refused(joined(4, 5, 5), 27)
         self.refused(joined(4, 4, 5), 23)
-        self.refused(joined(4, 5, 6), 27)
         self.refused(configuration() + record(4, b"") + font() + record(5, b""), 68)
+        for kinds in ((4, 6), (5, 6), (4, 5, 6)):
+            self.assertEqual(model.read_sign_file(joined(*kinds)).options, list(kinds))
+        for kinds, start in (((6, 4), 23), ((6, 5), 23), ((4, 6, 5), 27), ((5, 6, 4), 27), ((4, 5, 6, 6), 31), ((4, 5, 6, 4), 31),
+                             ((6, 6), 23), ((4, 5, 6, 7), 31)):
+            self.refused(joined(*kinds), start)
 
     def test_fonts(self):
         self.refused(configuration() + record(2, [0, 7, 2, 3, 0, 0]), 19)

@@ -7,12 +7,15 @@
 //!   the model, which has been compared before, answers otherwise.
 //! - kind 5: a time is above 255. The Rust refuses the [pt] with 6, and the model
 //!   answers otherwise.
+//! - kind 6: always. Such a listing is compared with the model alone.
 
 use crate::Fault;
 use crate::counts::ask_place;
 use crate::kambelohi::{ListAnswer, Span, list};
 use crate::stops::{EVERY, Why};
-use kambelohi_oracle::{Answer, CAPITALS, LONG_TIMES, Record, Refusal, Sign};
+use kambelohi_oracle::{
+    Answer, CAPITALS, GROUP_NUMBERS, LONG_TIMES, Record, Refusal, Sign,
+};
 use std::collections::BTreeMap;
 
 /// Records that a lent slice must have
@@ -89,9 +92,10 @@ impl SignFile {
 }
 
 /// Kinds of option records, and where a listing is passed over
-const OPTIONS: [(u16, &str); 2] = [
+const OPTIONS: [(u16, &str); 3] = [
     (CAPITALS, "a capital stands in"),
     (LONG_TIMES, "a time above 255"),
+    (GROUP_NUMBERS, "always"),
 ];
 
 /// Listings on files with an option record of a kind: compared with the Rust,
@@ -129,7 +133,12 @@ impl Spread {
         println!("[f0], here 5 by position: {}", self.field_0);
         println!("version ids not the Rust's: {}", self.not_comparable);
         for (kind, why) in OPTIONS {
-            if let Some(n) = self.options.get(&kind) {
+            let Some(n) = self.options.get(&kind) else {
+                continue;
+            };
+            if kind == GROUP_NUMBERS {
+                println!("kind {kind}: {} not compared with the Rust", n.passed);
+            } else {
                 println!(
                     "kind {kind}: {} compared with the Rust, {} passed over \
                      ({why})",
@@ -163,7 +172,7 @@ impl Spread {
         }
         for (kind, why) in OPTIONS {
             let n = self.options.get(&kind);
-            if n.is_none_or(|n| n.compared == 0) {
+            if kind != GROUP_NUMBERS && n.is_none_or(|n| n.compared == 0) {
                 all.push(format!("kind {kind}, compared"));
             }
             if n.is_none_or(|n| n.passed == 0) {
@@ -301,6 +310,10 @@ pub fn compare(
     spread: &mut Spread,
 ) -> Result<(), String> {
     spread.listings += 1;
+    if file.has(GROUP_NUMBERS) {
+        spread.count(file, Some(GROUP_NUMBERS));
+        return Ok(());
+    }
     let wanted = file.listing(msg);
     for (number, want) in wanted.iter().enumerate() {
         spread.answers += 1;

@@ -412,7 +412,7 @@ impl Run {
         }
         listings::compare(file, msg, slice, &mut self.spread)
             .map_err(Fault::Differs)?;
-        whole::compare(&file.bytes, msg, &mut self.lent, self.spread.listings)
+        whole::compare(file, msg, &mut self.lent, self.spread.listings)
             .map_err(Fault::Differs)?;
         if self.spread.listings % 8 == 0 {
             listings::compare_rest(&file.bytes, msg, slice)

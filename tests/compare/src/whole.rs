@@ -2,8 +2,8 @@
 //! the Rust, on patterned slices.
 
 use crate::kambelohi::{ListAllAnswer, Shown, Span, list, list_all};
-use crate::listings::{numbers, pattern};
-use kambelohi_oracle::{Answer, listing};
+use crate::listings::{SignFile, numbers, pattern};
+use kambelohi_oracle::{Answer, GROUP_NUMBERS, listing};
 
 /// Answers and records that the lent slices must have
 const ANSWERS: usize = 1026;
@@ -104,13 +104,15 @@ fn by_rust(sign: &[u8], msg: &[u8]) -> Option<(Vec<Shown>, Vec<Span>)> {
     None
 }
 
-/// Compare a whole listing; turn varies the lengths of the slices
+/// Compare a whole listing; turn varies the lengths of the slices. The Rust
+/// does not number spans by group (kind 6)
 pub fn compare(
-    sign: &[u8],
+    file: &SignFile,
     msg: &[u8],
     lent: &mut Lent,
     turn: usize,
 ) -> Result<(), String> {
+    let sign = &file.bytes[..];
     lent.answers.resize(ANSWERS + 3, Shown::default());
     lent.spans.resize(RECORDS + 3, Span::default());
     lent.one.resize(1400, Span::default());
@@ -124,7 +126,7 @@ pub fn compare(
     if !same {
         return Err(format!("whole listing\nby calls {want:?}\nhere {got:?}"));
     }
-    if got.kind == 1 {
+    if got.kind == 1 && !file.has(GROUP_NUMBERS) {
         if let Some((shown, listed)) = by_rust(sign, msg) {
             if shown != answers[..got.answers.into()]
                 || listed != spans[..got.records.into()]

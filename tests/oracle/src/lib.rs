@@ -13,7 +13,7 @@ mod values;
 
 pub use answer::{Answer, Item, Record, Refusal};
 pub use number::{decimal, hexadecimal, version_id};
-pub use sign::{CAPITALS, LONG_TIMES, Sign, with_version_ids};
+pub use sign::{CAPITALS, GROUP_NUMBERS, LONG_TIMES, Sign, with_version_ids};
 pub use stream::{StreamError, answer_stream};
 pub use values::{next_slices, run_values, values};
 

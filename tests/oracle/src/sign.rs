@@ -19,11 +19,13 @@ const PIXELS_MAX: u16 = 4096;
 /// Most characters of a font
 const CHARACTERS_MAX: usize = 256;
 /// Kinds of the empty option records after kind 1, in their order
-const OPTIONS: [u16; 2] = [CAPITALS, LONG_TIMES];
+const OPTIONS: [u16; 3] = [CAPITALS, LONG_TIMES, GROUP_NUMBERS];
 /// Kind of the record for capital-only fonts
 pub const CAPITALS: u16 = 4;
 /// Kind of the record for page times of 16 bits
 pub const LONG_TIMES: u16 = 5;
+/// Kind of the record for span numbers by group
+pub const GROUP_NUMBERS: u16 = 6;
 /// Tags that a sign file may support
 const TAGS: [Tag; 9] = [
     Tag::Fo,

@@ -4,7 +4,7 @@ mod common;
 
 use common::{board_p, record};
 use kambelohi_oracle::{
-    Answer, CAPITALS, LONG_TIMES, Sign, listing, version_ids,
+    Answer, CAPITALS, GROUP_NUMBERS, LONG_TIMES, Sign, listing, version_ids,
 };
 
 /// The refusal of a sign file, as a line
@@ -92,13 +92,13 @@ fn options() {
     let file = board_p().file();
     let (first, rest) = file.split_at(19);
     let with = |parts: &[&[u8]]| refused(&parts.concat());
-    for kind in [CAPITALS, LONG_TIMES] {
+    for kind in [CAPITALS, LONG_TIMES, GROUP_NUMBERS] {
         let option = record(kind, &[]);
         let whole = [first, &option[..], rest].concat();
         let sign = Sign::read(&whole).unwrap();
         assert!(sign.has(kind) && !board_p().sign().has(kind));
         // the Rust lists as without it
-        for message in ["AB", "ab", "A[nl]c", "[pt256]A", "[pt255]A"] {
+        for message in ["AB", "ab", "[pt256]A", "[pt255]A", "A[jl2]B"] {
             let plain = board_p().list(message);
             assert_eq!(listing(&whole, message.as_bytes()), plain);
         }
@@ -113,12 +113,17 @@ fn options() {
             assert_eq!(with(&[first, &option[..n]]), "4 1 19 0 0");
         }
     }
-    for kind in [6, 7, 260] {
+    for kind in [7, 260] {
         assert_eq!(with(&[first, &record(kind, &[]), rest]), "4 1 19 0 0");
     }
     let (four, five) = (record(CAPITALS, &[]), record(LONG_TIMES, &[]));
     assert_eq!(with(&[first, &four, &five, rest]), "accepted");
     assert_eq!(with(&[first, &five, &four, rest]), "4 1 23 0 0");
+    let six = record(GROUP_NUMBERS, &[]);
+    assert_eq!(with(&[first, &four, &six, rest]), "accepted");
+    assert_eq!(with(&[first, &four, &five, &six, rest]), "accepted");
+    assert_eq!(with(&[first, &four, &six, &five, rest]), "4 1 27 0 0");
+    assert_eq!(with(&[first, &six, &four, rest]), "4 1 23 0 0");
 }
 
 #[test]
