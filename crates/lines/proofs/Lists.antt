@@ -1,8 +1,8 @@
 -- The list after a row is the one that `add_line` gives, and the fold over the rows.
-use Rattle.std.specs.Prelude.{ℕ, zero, suc, ◌+◌, ◌≤◌, ◌<◌, ◌≡◌, List, [], ◌∷◌, ◌++◌, length, get_or, set, drop, map, Option, Some, None}
+use Rattle.std.specs.Prelude.{ℕ, zero, suc, ◌+◌, ◌≤◌, ◌<◌, ◌≡◌, List, [], ◌∷◌, ◌++◌, length, get_or, set, take, drop, map, Option, Some, None}
 use Rattle.std.proofs.Common.{refl, ◌∙◌, ap, sym, arith, ne_eqb, eq-eqb}
-use Rattle.std.proofs.lemmas.List.{length-map, map-set, map_push, get_or-map, drop_more, drop_all}
-use Rattle.arrayvec.specs.ArrayVec.{ArrayVec}
+use Rattle.std.proofs.lemmas.List.{length-map, length-take-le, map-set, map_push, get_or-map, get_or-take, take_more_set, drop_more, drop_all}
+use Rattle.std.proofs.Math.Seq.{take-set-lt}
 use Rattle.std.specs.Option.{option_or}
 use Rattle.layout.specs.Placing.{Line, combine, add_line, or_else}
 use Rattle.layout.specs.declared.Fault.{Fault}
@@ -32,26 +32,32 @@ met l r b o f p = p ∙ ap (option_or l.fault) f ∙ earlier_is l.fault (font_on
 
 -- a row was added: own is its line, b its font's fault, o the first fault
 module _ {l : LineList} {r : Row} {own : TextLine} (u : line_is own ≡ row_line r) {b o : Option Fault} (f : b ≡ font_only r.fault) (p : o ≡ option_or l.fault b) where
-  -- it joins the line a
-  pub row_joins : {at : ℕ} {a t : TextLine} → at ≡ r.line → at < length l.lines.items → a ≡ get_or l.lines.items at a
-      → line_is t ≡ combine (line_is a) (line_is own) → RowAdded l r (record { lines = record { items = set l.lines.items at t }; fault = o })
+  -- it joins the line of its number
+  pub row_joins : {at : ℕ} {t : TextLine} (d : TextLine) → at ≡ r.line → at < l.count → l.count ≤ 256 → length l.lines ≡ 256
+      → line_is t ≡ combine (line_is (get_or l.lines at d)) (line_is own) → RowAdded l r (record { lines = set l.lines at t; count = l.count; fault = o })
   unfolding lines_in
-  row_joins {at} {a} {t} e h k q =
-      let ls : List Line = map line_is l.lines.items in
-      let there : get_or ls at (line_is a) ≡ line_is a = get_or-map line_is l.lines.items at a (line_is a) h ∙ ap line_is (sym k) in
+  row_joins {at} {t} d e h few n q =
+      let us : List TextLine = take l.count l.lines in
+      let ls : List Line = map line_is us in
+      let size : length us ≡ l.count = length-take-le l.count l.lines (omega arith) in
+      let there : get_or ls at (line_is d) ≡ line_is (get_or l.lines at d) =
+      get_or-map line_is us at d (line_is d) (omega arith) ∙ ap line_is (get_or-take l.count l.lines at d h) in
       let put : set ls at (line_is t) ≡ add_line at (row_line r) ls =
-      ap (set ls at) (q ∙ ap (combine (line_is a)) u ∙ ap (λ (x : Line). combine x (row_line r)) (sym there))
-      ∙ add_old at (row_line r) (line_is a) ls (omega (arith, length-map l.lines.items line_is)) in
-      record { lines = rw (map-set line_is l.lines.items at t, put, e); font = met l r b o f p }
+      ap (set ls at) (q ∙ ap (combine (line_is (get_or l.lines at d))) u ∙ ap (λ (x : Line). combine x (row_line r)) (sym there))
+      ∙ add_old at (row_line r) (line_is d) ls (omega (arith, length-map us line_is)) in
+      record { lines = rw (take-set-lt l.count l.lines at t h, map-set line_is us at t, put, e); few = few; font = met l r b o f p }
 
   -- it is the next line
-  pub row_follows : {at : ℕ} {ts : ArrayVec TextLine} → at ≡ r.line → length l.lines.items ≤ at → ts.items ≡ l.lines.items ++ (own ∷ [])
-      → RowAdded l r (record { lines = ts; fault = o })
+  pub row_follows : {at : ℕ} → at ≡ r.line → l.count ≤ at → at < 256 → length l.lines ≡ 256
+      → RowAdded l r (record { lines = set l.lines l.count own; count = l.count + 1; fault = o })
   unfolding lines_in
-  row_follows e h q =
-      let ls : List Line = map line_is l.lines.items in
+  row_follows e h few n =
+      let us : List TextLine = take l.count l.lines in
+      let ls : List Line = map line_is us in
+      let size : length us ≡ l.count = length-take-le l.count l.lines (omega arith) in
       record {
-        lines = rw (q, map_push line_is l.lines.items own, u) (add_new r.line (row_line r) ls (omega (arith, length-map l.lines.items line_is)));
+        lines = rw (take_more_set l.lines l.count own (omega arith), map_push line_is us own, u) (add_new r.line (row_line r) ls (omega (arith, length-map us line_is)));
+        few = omega arith;
         font = met l r b o f p;
       }
 
@@ -85,12 +91,13 @@ module _ (j : ℕ) (x : Row) (rs : List Row) where
 -- the first i rows are gathered in l
 pub record Gathering (rows : List Row) (just : ℕ) (l : LineList) (i : ℕ) : Type 0 where
   pub lines : lines_from just (lines_in l) (drop i rows) ≡ lines_from just [] rows
+  pub few : l.count ≤ 256
   pub font : or_else l.fault (font_fault_from just (drop i rows)) ≡ font_fault_from just rows
 
 -- no lines and no fault yet
-pub gather_start : {rows : List Row} {just : ℕ} {l : LineList} → l.lines.items ≡ [] → l.fault ≡ None → Gathering rows just l 0
+pub gather_start : {rows : List Row} {just : ℕ} {l : LineList} → l.count ≡ 0 → l.fault ≡ None → Gathering rows just l 0
 unfolding lines_in or_else
-gather_start e q = record { lines = rw e; font = rw q }
+gather_start e q = record { lines = rw e; few = omega arith; font = rw q }
 
 module _ {rows : List Row} {just : ℕ} {l : LineList} {i : ℕ} (g : Gathering rows just l i) where
   pub gather_end : length rows ≤ i → LinesOf rows just l
@@ -98,6 +105,7 @@ module _ {rows : List Row} {just : ℕ} {l : LineList} {i : ℕ} (g : Gathering 
   gather_end h =
       record {
         lines = rw (drop_all i rows h) at g.lines;
+        few = g.few;
         font = sym (or_none l.fault) ∙ rw (drop_all i rows h) at g.font;
       }
 
@@ -109,6 +117,7 @@ module _ {rows : List Row} {just : ℕ} {l : LineList} {i : ℕ} (g : Gathering 
         let next : drop i rows ≡ get_or rows i d ∷ rest = drop_more rows i d h in
         record {
           lines = sym (from_skip just (get_or rows i d) rest (lines_in l) q) ∙ ap (lines_from just (lines_in l)) (sym next) ∙ g.lines;
+          few = g.few;
           font = ap (or_else l.fault) (sym (font_skip just (get_or rows i d) rest q) ∙ ap (font_fault_from just) (sym next)) ∙ g.font;
         }
 
@@ -121,6 +130,7 @@ module _ {rows : List Row} {just : ℕ} {l : LineList} {i : ℕ} (g : Gathering 
           lines =
               ap (λ (ls : List Line). lines_from just ls rest) a.lines ∙ sym (from_on just x rest (lines_in l) q)
               ∙ ap (lines_from just (lines_in l)) (sym next) ∙ g.lines;
+          few = a.few;
           font =
               ap (λ (o : Option Fault). or_else o (font_fault_from just rest)) a.font
               ∙ or_assoc l.fault (font_only x.fault) (font_fault_from just rest)

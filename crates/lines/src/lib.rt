@@ -6,7 +6,6 @@ ghost use Rattle.layout.specs.Placing.{combine as combine_of, gap_above};
 ghost use Rattle.rows.specs.Measured.{font_only};
 ghost use Rattle.lines.specs.Lines.{line_is, line_above, row_line, RowAdded, LinesOf, PageHeights, foot_in, heights_in};
 
-use arrayvec::ArrayVec;
 use layout::Fault;
 use rows::Row;
 
@@ -48,24 +47,29 @@ fn font_only(fault: Option<Fault>) -> Option<Fault>
     fault.filter(|f| f.number != 12)
 }
 
-// The lines so far, each at its number, and the first font fault met while they were collected: an Option beside them and no Result, since lines
-// are collected past a fault.
-#[derive(Drop)]
-struct LineList {
-    lines: ArrayVec<TextLine, 256>,
+// The lines so far: the first count, each at its number; and the first font fault met while they were collected: an Option beside them and no
+// Result, since lines are collected past a fault. An array with its count, since an ArrayVec is not Copy, and this is.
+#[derive(Clone, Copy)]
+pub struct LineList {
+    lines: [TextLine; 256],
+    count: usize,
     fault: Option<Fault>,
 }
 
 impl LineList {
     // A row more: it joins the line of its number, or is the next line.
     fn add(&mut self, row: &Row)
+        requires { self.old.count ≤ 256 }
         ensures { RowAdded self.old row.now self.new }
     {
         self.fault = self.fault.or(font_only(row.fault));
         let own = TextLine::new(row);
-        match self.lines.get_mut(usize::from(row.line)) {
-            Some(line) => *line = line.combine(own),
-            None => self.lines.push(own),
+        let at = usize::from(row.line);
+        if at < self.count {
+            self.lines[at] = self.lines[at].combine(own);
+        } else {
+            self.lines[self.count] = own;
+            self.count += 1;
         }
     }
 }
@@ -75,7 +79,8 @@ fn line_list(rows: &[Row], just: u16) -> LineList
     ensures { LinesOf rows.now just result }
 {
     let mut list = LineList {
-        lines: ArrayVec::new(),
+        lines: [TextLine::default(); 256],
+        count: 0,
         fault: None,
     };
     for row in rows {
@@ -112,14 +117,16 @@ pub struct Heights {
     pub fault: Option<Fault>,
 }
 
-// The lines of page justification just, summed up: what stands above the foot of each by its number, what they take in all (that is also
-// above the foot of a line that is not there), and their first font fault. just is a number, as in `Row`: an enum would be its number again.
-#[derive(Drop)]
+// The lines of page justification just, summed up: how many they are, what they take in all (that is also above the foot of a line that is not
+// there), their first font fault, and what stands above the foot of each by its number. just is a number, as in `Row`: an enum would be its
+// number again. The feet are an array with its count, as in `LineList`.
+#[derive(Clone, Copy)]
 pub struct PageLines {
     pub just: u16,
-    feet: ArrayVec<u32, 256>,
-    total: u32,
-    fault: Option<Fault>,
+    pub count: usize,
+    pub total: u32,
+    pub fault: Option<Fault>,
+    feet: [u32; 256],
 }
 
 impl PageLines {
@@ -127,19 +134,20 @@ impl PageLines {
         ensures { PageHeights char_height rows.now just result }
     {
         let list = line_list(rows, just);
-        let mut feet = ArrayVec::new();
+        let mut feet = [0; 256];
         let mut total: u32 = 0;
         let mut above: Option<TextLine> = None;
-        for line in list.lines.iter() {
+        for (i, line) in list.lines[..list.count].iter().enumerate() {
             total += gap(char_height, above, *line) + u32::from(line.height);
-            feet.push(total);
+            feet[i] = total;
             above = Some(*line);
         }
         PageLines {
             just,
-            feet,
+            count: list.count,
             total,
             fault: list.fault,
+            feet,
         }
     }
 
@@ -148,11 +156,12 @@ impl PageLines {
         requires { foot_in self.now line ≤ self.now.total }
         ensures { result ≡ heights_in self.now line }
     {
-        let foot = self
-            .feet
-            .get(usize::from(line))
-            .copied()
-            .unwrap_or(self.total);
+        let at = usize::from(line);
+        let foot = if at < self.count {
+            self.feet[at]
+        } else {
+            self.total
+        };
         Heights {
             above: u64::from(foot),
             below: u64::from(self.total - foot),

@@ -237,9 +237,9 @@ module _ {p : Pass} {m : ℕ} {out : List Span} {page : PageLines} {i : ℕ} (z 
   module _ (more : i < m) where
     -- r is the row, v its heights; the lines of page' are its own
     module _ {r : Row} (er : r ≡ row_at p.rows.now i) {page' : PageLines} (h : PageHeights p.config.char_height p.rows.now r.just_page page')
-        (fits : r.line < 256) {v : Heights} (ev : v ≡ heights_in page' r.line) where
+        {v : Heights} (ev : v ≡ heights_in page' r.line) where
       tall : HeightsOf p.config.char_height p.rows.now r.just_page r.line v
-      tall = heights_are h r.line fits ev
+      tall = heights_are h r.line ev
 
       own : Sums
       own = sums r none_yet p.rows.now

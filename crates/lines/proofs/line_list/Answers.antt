@@ -4,7 +4,7 @@ use Rattle.lines.proofs.line_list.Goals as goal
 use Rattle.lines.proofs.line_list.Goals.{then-row-just, else-row-just}
 
 pub loop-row-init : goal.loop-row-init
-loop-row-init c = gather_start c.new.ensures refl
+loop-row-init c = gather_start refl refl
 
 pub loop-row-preserved : goal.loop-row-preserved
 loop-row-preserved c =
