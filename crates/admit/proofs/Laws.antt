@@ -6,8 +6,7 @@ use mathlib.Core.List.{List}
 use lib.Dec.{ltb}
 use lib.ListN.{length}
 use borrow.Author.Tests.{ltb-true, ltb-false, lt-ltb, le-ltb}
-use Rattle.std.specs.Prelude.{Result, Ok, Err, is_ok}
-use Rattle.std.specs.Result.{MatchResult}
+use Rattle.std.specs.Prelude.{Result, Ok, Err}
 use Rattle.base.specs.Pick.{pick}
 use Rattle.utf8.specs.Utf8.{well_formed}
 use Rattle.refusal.specs.declared.Refusal.{Refusal}
@@ -15,11 +14,12 @@ use Rattle.refusal.specs.Refusals.{refusal}
 use Rattle.records.specs.declared.Config.{Config}
 use Rattle.sign.specs.Sign.{Font, Sign as Signed, Accepted, RefusedAt, sign_file}
 use Rattle.sign.specs.Given.{content_of, refusal_at, given as table_of}
-use Rattle.sign.specs.declared.RefusedAt.{RefusedAt as RefusedFile}
 use Rattle.sign.specs.declared.SignFile.{SignFile}
+use Rattle.sign.specs.declared.RefusedAt.{RefusedAt as RefusedFile}
 use Rattle.sign.proofs.Answer.{refuses}
 use Rattle.admit.specs.Admission.{Admission, denied, admitted, refusing, admission_on, admission}
 use Rattle.admit.specs.Handed.{handed}
+use Rattle.admit.specs.declared.Denied.{Denied}
 
 -- ---- what an admission tells
 
@@ -62,50 +62,43 @@ module _ {file msg : List ℕ} where
 
 -- ---- the answer of `admit`
 
+abbrev pub denied_by : Refusal → Result SignFile RefusedFile → Result SignFile Denied
+denied_by r s = Err (record { refusal = r; sign = s })
+
 module _ (file msg : List ℕ) where
   -- one law for each way out
-  pub bad_sign : (at : ℕ) → refusal_at at ≡ table_of (sign_file file) → Err (refusal 1 at 0 0) ≡ handed (admission file msg)
+  pub bad_sign : (at : ℕ) → refusal_at at ≡ table_of (sign_file file)
+      → denied_by (refusal 1 at 0 0) (refusal_at at) ≡ handed (admission file msg) (sign_file file)
   unfolding admission
   bad_sign at e = rw (refuses file at e)
 
   module _ (t : SignFile) (e : Ok t ≡ table_of (sign_file file)) where
-    pub too_long : 2048 < length msg → Err (refusal 2 0 0 0) ≡ handed (admission file msg)
+    pub too_long : 2048 < length msg → denied_by (refusal 2 0 0 0) (Ok t) ≡ handed (admission file msg) (sign_file file)
     unfolding admission
     too_long h = look (sign_file file) e
       where
-        look : (s : Signed) → Ok t ≡ table_of s → Err (refusal 2 0 0 0) ≡ handed (admission_on s msg)
+        look : (s : Signed) → Ok t ≡ table_of s → denied_by (refusal 2 0 0 0) (Ok t) ≡ handed (admission_on s msg) s
         look (RefusedAt start) q = cc
-        look (Accepted c fs) q = rw (lt-ltb 2048 (length msg) h)
+        look (Accepted c fs) q = rw (lt-ltb 2048 (length msg) h) (ap (denied_by (refusal 2 0 0 0)) q)
 
     module _ (s : length msg ≤ 2048) where
-      pub ill_formed : false ≡ well_formed msg → Err (refusal 3 0 0 0) ≡ handed (admission file msg)
+      pub ill_formed : false ≡ well_formed msg → denied_by (refusal 3 0 0 0) (Ok t) ≡ handed (admission file msg) (sign_file file)
       unfolding admission
       ill_formed f = look (sign_file file) e
         where
-          look : (x : Signed) → Ok t ≡ table_of x → Err (refusal 3 0 0 0) ≡ handed (admission_on x msg)
+          look : (x : Signed) → Ok t ≡ table_of x → denied_by (refusal 3 0 0 0) (Ok t) ≡ handed (admission_on x msg) x
           look (RefusedAt start) q = cc
-          look (Accepted c fs) q = rw (le-ltb 2048 (length msg) s, sym f)
+          look (Accepted c fs) q = rw (le-ltb 2048 (length msg) s, sym f) (ap (denied_by (refusal 3 0 0 0)) q)
 
-      pub let_in : true ≡ well_formed msg → Ok t ≡ handed (admission file msg)
+      pub let_in : true ≡ well_formed msg → Ok t ≡ handed (admission file msg) (sign_file file)
       unfolding admission
       let_in f = look (sign_file file) e
         where
-          look : (x : Signed) → Ok t ≡ table_of x → Ok t ≡ handed (admission_on x msg)
+          look : (x : Signed) → Ok t ≡ table_of x → Ok t ≡ handed (admission_on x msg) x
           look (RefusedAt start) q = cc
           look (Accepted c fs) q =
               let made : t ≡ content_of c fs = cc in
               rw (le-ltb 2048 (length msg) s, sym f) (ap Ok made)
-
--- what was read of the sign file, as `map_err` hands it on
-pub sign_kept : (file : List ℕ) (t : SignFile) (Q : RefusedFile → Type 0) (o : Result SignFile RefusedFile)
-    → MatchResult o (λ x. ◌≡◌ {A = Result SignFile Refusal} (Ok t) (Ok x)) Q → true ≡ is_ok o → o ≡ table_of (sign_file file) → Ok t ≡ table_of (sign_file file)
-sign_kept file t Q (Ok x) h v e = let same : t ≡ x = cc in rw same e
-sign_kept file t Q (Err r) h v e = cc
-
-pub sign_refused : (file msg : List ℕ) (y : Refusal) (P : SignFile → Type 0) (o : Result SignFile RefusedFile)
-    → MatchResult o P (λ r. y ≡ refusal 1 r.at 0 0) → false ≡ is_ok o → o ≡ table_of (sign_file file) → Err y ≡ handed (admission file msg)
-sign_refused file msg y P (Ok x) h v e = cc
-sign_refused file msg y P (Err r) h v e = rw h (bad_sign file msg r.at e)
 
 -- ---- what a caller learns
 
@@ -117,18 +110,20 @@ pub record Opens (file msg : List ℕ) (t : SignFile) : Type 0 where
   pub admits_it : Admits file msg t.config fs
 
 module _ (file msg : List ℕ) where
-  pub denied_is : {r : Refusal} → Err r ≡ handed (admission file msg) → admission file msg ≡ denied r
-  denied_is {r} h = look (admission file msg) h
+  pub denied_is : {d : Denied} → Err d ≡ handed (admission file msg) (sign_file file) → admission file msg ≡ denied d.refusal
+  denied_is {d} h = look (admission file msg) h
     where
-      look : (a : Admission) → Err r ≡ handed a → a ≡ denied r
-      look (denied y) q = let k : y ≡ r = cc in ap denied k
+      look : (a : Admission) → Err d ≡ handed a (sign_file file) → a ≡ denied d.refusal
+      look (denied y) q =
+          let k : d ≡ record { refusal = y; sign = table_of (sign_file file) } = cc in
+          ap denied (sym (ap (λ (x : Denied). x.refusal) k))
       look (admitted c fs) q = cc
 
-  pub opens : {t : SignFile} → Ok t ≡ handed (admission file msg) → Opens file msg t
+  pub opens : {t : SignFile} → Ok t ≡ handed (admission file msg) (sign_file file) → Opens file msg t
   unfolding content_of
   opens {t} h = look (admission file msg) refl h
     where
-      look : (a : Admission) → admission file msg ≡ a → Ok t ≡ handed a → Opens file msg t
+      look : (a : Admission) → admission file msg ≡ a → Ok t ≡ handed a (sign_file file) → Opens file msg t
       look (denied y) q d = cc
       look (admitted c fs) q d =
           let m : Admits file msg c fs = admits q in

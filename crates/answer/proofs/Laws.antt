@@ -13,6 +13,7 @@ use Rattle.refusal.specs.declared.Refusal.{Refusal}
 use Rattle.sign.specs.Sign.{Sign, sign_file}
 use Rattle.admit.specs.Admission.{Admission, admission}
 use Rattle.admit.specs.Handed.{handed}
+use Rattle.admit.specs.declared.Denied.{Denied}
 use Rattle.sign.specs.declared.SignFile.{SignFile}
 use Rattle.admit.proofs.Laws.{Opens, denied_is, opens}
 use Rattle.layout.specs.declared.Answer.{Answer}
@@ -114,7 +115,7 @@ module _ {call : Call} {number : ℕ} {rows₀ : List Row} {out₀ : List Span} 
 
 -- by the answer of `admit`
 module _ (file msg : List ℕ) where
-  pub call_denied : {y : Refusal} → Err y ≡ handed (admission file msg) → (n room : ℕ) (out : List Span) {r : Placed} → r ≡ bare (Refused y)
+  pub call_denied : {y : Denied} → Err y ≡ handed (admission file msg) (sign_file file) → (n room : ℕ) (out : List Span) {r : Placed} → r ≡ bare (Refused y.refusal)
       → Answered file msg n room out out r
   unfolding result
   call_denied h n room out d =
@@ -124,7 +125,7 @@ module _ (file msg : List ℕ) where
         counts = record { looked = refl; spans = refl };
       })
 
-  module _ {t : SignFile} (h : Ok t ≡ handed (admission file msg)) where
+  module _ {t : SignFile} (h : Ok t ≡ handed (admission file msg) (sign_file file)) where
     abbrev known : Opens file msg t
     known = opens file msg h
 

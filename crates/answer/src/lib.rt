@@ -88,7 +88,7 @@ pub fn placed(file: &[u8], msg: &[u8], number: usize, room: usize, out: &mut [Sp
 {
     let table = match admit::admit(file, msg) {
         Ok(table) => table,
-        Err(r) => return unplaced(Answer::Refused(r)),
+        Err(denied) => return unplaced(Answer::Refused(denied.refusal)),
     };
     if room < 1400 {
         return unplaced(Answer::Refused(Refusal::of(4)));

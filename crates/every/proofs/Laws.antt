@@ -18,9 +18,10 @@ use Rattle.base.specs.Pick.{pick}
 use Rattle.refusal.specs.declared.Refusal.{Refusal}
 use Rattle.refusal.specs.Refusals.{refusal}
 use Rattle.records.specs.declared.Config.{Config}
-use Rattle.sign.specs.Sign.{Font}
+use Rattle.sign.specs.Sign.{Font, sign_file}
 use Rattle.admit.specs.Admission.{Admission, denied, admitted, admission}
 use Rattle.admit.specs.Handed.{handed}
+use Rattle.admit.specs.declared.Denied.{Denied}
 use Rattle.sign.specs.declared.SignFile.{SignFile}
 use Rattle.admit.proofs.Laws.{Opens, admits, denied_is, opens}
 use Rattle.layout.specs.declared.Span.{Span}
@@ -266,11 +267,11 @@ module _ {call : Call} {rows₀ : List Row} {shown₀ : List Shown} {out₀ : Li
 
 -- by the answer of `admit`
 module _ (file msg : List ℕ) (a k : ℕ) where
-  pub call_denied : {y : Refusal} → Err y ≡ handed (admission file msg) → gathered file msg a k ≡ none_but y
+  pub call_denied : {y : Denied} → Err y ≡ handed (admission file msg) (sign_file file) → gathered file msg a k ≡ none_but y.refusal
   unfolding gathered
   call_denied h = ap (λ (y : Admission). gathered_on y msg a k) (denied_is file msg h)
 
-  module _ {t : SignFile} (h : Ok t ≡ handed (admission file msg)) where
+  module _ {t : SignFile} (h : Ok t ≡ handed (admission file msg) (sign_file file)) where
     abbrev known : Opens file msg t
     known = opens file msg h
 

@@ -119,7 +119,10 @@ fn paged<const N: usize>(call: &Call, shown: &mut [Shown], out: &mut [Span]) -> 
 fn opened(file: &[u8], msg: &[u8], answers: usize, records: usize) -> Result<SignFile, Refusal>
     ensures { Opened file.now msg.now answers records result }
 {
-    let table = admit::admit(file, msg)?;
+    let table = match admit::admit(file, msg) {
+        Ok(table) => table,
+        Err(denied) => return Err(denied.refusal),
+    };
     if answers < ANSWERS || records < ROOM {
         return Err(Refusal::of(4));
     }
