@@ -90,7 +90,7 @@ module _ {call : Call} {p : Pages} {rows : List Row} {out : List Span} (asked : 
   its = items_in call p.at
 
   pub on_stop : {x : Refusal} → q.fault ≡ Some x → OnRead call p rows out p rows out (Err x)
-  on_stop h = record { ends = on_refused s its p.times.on p.times.off p.render_state e h; next = tt; rowed = refl; room = refl }
+  on_stop h = record { ends = on_refused s its p.times.on p.times.off p.render_state e h; next = tt; stays = refl; rowed = refl; room = refl }
 
   -- a page ended so
   module _ {rows' : List Row} {out' : List Span} {v : Result PageDone Refusal} (h : q.fault ≡ None)
@@ -99,7 +99,7 @@ module _ {call : Call} {p : Pages} {rows : List Row} {out : List Span} (asked : 
     tells g = on_run s its p.times.on p.times.off p.render_state e h ∙ t.ends q.on q.off ∙ ap (page_told s call.msg.now q.on q.off out') g
 
     pub on_refuse : {x : Refusal} → v ≡ Err x → OnRead call p rows out p rows' out' (Err x)
-    on_refuse g = record { ends = tells g; next = tt; rowed = t.rowed; room = t.room }
+    on_refuse g = record { ends = tells g; next = tt; stays = refl; rowed = t.rowed; room = t.room }
 
     pub on_page : {d : PageDone} {x : PageState} → v ≡ Ok d → x ≡ state_after d.more q.off
         → OnRead call p rows out (pages_at d.reached.at d.reached.state q.on q.off x) rows' out'
@@ -121,6 +121,7 @@ module _ {call : Call} {p : Pages} {rows : List Row} {out : List Span} (asked : 
                 looked = f.looked;
                 short = f.short;
               };
+          stays = tt;
           rowed = t.rowed;
           room = t.room;
         }

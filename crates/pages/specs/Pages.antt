@@ -1,6 +1,6 @@
 -- The pages of a message as the code goes through them: pass by pass, page by page, answer by answer. `pages_todo` of proofs/Answers.antt says that
 -- layout's `pages` is what is to come before the first answer.
-use Rattle.std.specs.Prelude.{ℕ, ◌+◌, ◌*◌, ◌≤◌, ◌≡◌, Bool, true, false, List, [], ◌∷◌, ◌++◌, ltb, length, IfSome, IfOk, Some, None, Result, Ok, Err}
+use Rattle.std.specs.Prelude.{ℕ, ◌+◌, ◌*◌, ◌≤◌, ◌≡◌, Bool, true, false, List, [], ◌∷◌, ◌++◌, ltb, length, IfSome, IfOk, IfErr, Some, None, Result, Ok, Err}
 use Rattle.std.specs.Prelude.{Option}
 use Rattle.base.specs.Pick.{pick}
 use Rattle.refusal.specs.declared.Refusal.{Refusal}
@@ -198,6 +198,12 @@ weight Done = 0
 abbrev pub IfShown : (PageShown → Type 0) → Result (Option PageShown) Refusal → Type 0
 IfShown P r = IfOk r (λ o. IfSome o P)
 
+-- and what is said of these two
+abbrev pub IfNoneShown : Type 0 → Result (Option PageShown) Refusal → Type 0
+IfNoneShown P (Ok (Some x)) = Unit {0}
+IfNoneShown P (Ok None) = P
+IfNoneShown P (Err r) = P
+
 -- an answer takes one of them, or bytes of the message; at is the place and w the weight before it, and out holds its records
 pub record Advances (call : Call) (out : List Span) (at w : ℕ) (p : Pages) (x : PageShown) : Type 0 where
   pub stands : InMessage call.table.config (length call.msg.now) p
@@ -217,13 +223,15 @@ pub record OnRead (call : Call) (p : Pages) (rows : List Row) (out : List Span) 
   pub ends :
       turned (board_of call) (items_in call p.at) p.times.on p.times.off p.render_state ≡ on_told (board_of call) call.msg.now out' p' r
   pub next : IfOk r (Advances call out' p.at 2 p')
+  pub stays : IfErr r (λ e. p' ≡ p)
   pub rowed : length rows' ≡ length rows
   pub room : length out' ≡ length out
 
--- an answer was
+-- an answer was: a refusal and the end leave the place where it was, so that they come again
 pub record NextRead (call : Call) (p : Pages) (rows : List Row) (out : List Span) (p' : Pages) (rows' : List Row) (out' : List Span)
     (r : Result (Option PageShown) Refusal) : Type 0 where
   pub ends : todo (board_of call) call.msg.now p ≡ next_told (board_of call) call.msg.now out' p' r
   pub next : IfShown (Advances call out' p.at (weight p.page_state) p') r
+  pub stays : IfNoneShown (p' ≡ p) r
   pub rowed : length rows' ≡ length rows
   pub room : length out' ≡ length out
