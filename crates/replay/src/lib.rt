@@ -10,7 +10,7 @@ ghost use Rattle.std.specs.Prelude.{◌≡◌, ◌+◌, ◌*◌, ◌<◌, ◌≤
 ghost use Rattle.replay.specs.Text.{words_of, word_of, number_of, starts, is_all, plain_number, nibble_of, pair_of, digits_in, pairs_of};
 
 use arrayvec::ArrayVec;
-pub use input::{Input, Line};
+pub use input::{Input, Line, Lines};
 pub use score::{BadStream, Score, print_other};
 pub use stream::{Kind, Phase, Stream};
 

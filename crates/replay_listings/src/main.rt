@@ -6,12 +6,14 @@ mod compare;
 use arrayvec::ArrayVec;
 use compare::Check;
 use layout::Span;
-use replay::{BadStream, Input, Kind, Line, Score};
+use replay::{BadStream, Kind, Line, Lines, Score};
 
-// The sign file that came last, the case whose answers are read with its message, and how many cases agree and how these end.
+// The sign file that came last, once one came, the case whose answers are read with its message, and how many cases agree and how these end. The
+// bytes of file and message have one place for all: an array of their own for each would take longer than most of them do.
 #[derive(Drop)]
 struct Replay {
-    file: Option<ArrayVec<u8, 131072>>,
+    file: ArrayVec<u8, 131072>,
+    came: bool,
     check: Option<Check>,
     msg: ArrayVec<u8, 8192>,
     out: [Span; rows::ROOM],
@@ -25,12 +27,11 @@ impl Replay {
     fn open(&mut self, text: &[u8]) -> Option<()> {
         match Kind::of(text) {
             Some(Kind::S) => {
-                let mut file = ArrayVec::new();
-                replay::bytes(replay::word(text, 1), &mut file)?;
-                self.file = Some(file);
+                replay::bytes(replay::word(text, 1), &mut self.file)?;
+                self.came = true;
             }
+            Some(Kind::L) if !self.came => return None,
             Some(Kind::L) => {
-                self.file.as_ref()?;
                 replay::bytes(replay::word(text, 1), &mut self.msg)?;
                 self.check = Some(Check::default());
             }
@@ -67,10 +68,15 @@ impl Replay {
             }
             return self.open(line.text).ok_or(BadStream { line: line.number });
         }
-        let (Some(check), Some(file)) = (&mut self.check, &self.file) else {
+        let Some(check) = &mut self.check else {
             return Ok(());
         };
-        check.listed(line, file.as_slice(), self.msg.as_slice(), &mut self.out);
+        check.listed(
+            line,
+            self.file.as_slice(),
+            self.msg.as_slice(),
+            &mut self.out,
+        );
         if !line.then.is_listing() {
             let check = *check;
             self.settle(rt, check);
@@ -95,7 +101,8 @@ impl Replay {
 fn main(rt: HostRuntime) {
     let mut buf = [0u8; 524288];
     let mut replay = Replay {
-        file: None,
+        file: ArrayVec::new(),
+        came: false,
         check: None,
         msg: ArrayVec::new(),
         out: [Span::default(); rows::ROOM],
@@ -103,8 +110,8 @@ fn main(rt: HostRuntime) {
         ends: 0,
         refusals: [0; 16],
     };
-    let mut input = Input::new(rt.stdin(), &mut buf);
-    match input.each(|line| replay.turn(&rt, line)) {
+    let mut lines = Lines::new(rt.stdin(), &mut buf, false);
+    match lines.each(|line| replay.turn(&rt, line)) {
         Ok(()) => replay.print(&rt),
         Err(bad) => {
             let _ = println!(rt; "{bad}");

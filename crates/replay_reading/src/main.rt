@@ -4,7 +4,7 @@
 mod compare;
 
 use compare::{Bytes, Check, KINDS};
-use replay::{BadStream, Input, Kind, Line, Score};
+use replay::{BadStream, Kind, Line, Lines, Score};
 
 // The case whose answer is read, if it is compared, and how many of each kind agree.
 #[derive(Drop)]
@@ -53,8 +53,8 @@ fn main(rt: HostRuntime) {
         msg: Bytes::new(),
         scores: KINDS.map(|kind| (kind, Score::default())),
     };
-    let mut input = Input::new(rt.stdin(), &mut buf);
-    match input.each(|line| replay.turn(&rt, line)) {
+    let mut lines = Lines::new(rt.stdin(), &mut buf, true);
+    match lines.each(|line| replay.turn(&rt, line)) {
         Ok(()) => {
             for (kind, score) in &replay.scores {
                 score.print(&rt, *kind);

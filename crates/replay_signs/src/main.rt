@@ -2,7 +2,7 @@
 #![tactic(auto)]
 
 use arrayvec::ArrayVec;
-use replay::{BadStream, Input, Kind, Line, Phase, Score};
+use replay::{BadStream, Kind, Line, Lines, Phase, Score};
 use sign::{RefusedAt, SignFile};
 
 // The case whose answer is read: the number of its line, the next font of its answer, and whether it agrees so far.
@@ -13,9 +13,12 @@ struct Check {
     agrees: bool,
 }
 
-// The sign file that came last, the I case whose answer is read, and how many agree.
+// The sign file that came last, once one came, what was read of it, once an I case came, the I case whose answer is read, and how many agree. The
+// file's bytes have one place for all: an array of their own for each would take longer than most files do.
 #[derive(Drop)]
 struct Replay {
+    file: ArrayVec<u8, 131072>,
+    came: bool,
     sign: Option<Result<SignFile, RefusedAt>>,
     check: Option<Check>,
     score: Score,
@@ -55,12 +58,15 @@ impl Replay {
     fn open(&mut self, line: &Line) -> Option<()> {
         match Kind::of(line.text) {
             Some(Kind::S) => {
-                let mut file = ArrayVec::<u8, 131072>::new();
-                replay::bytes(replay::word(line.text, 1), &mut file)?;
-                self.sign = Some(sign::read_sign(file.as_slice()));
+                replay::bytes(replay::word(line.text, 1), &mut self.file)?;
+                self.came = true;
+                self.sign = None;
             }
+            Some(Kind::I) if !self.came => return None,
             Some(Kind::I) => {
-                self.sign.as_ref()?;
+                if self.sign.is_none() {
+                    self.sign = Some(sign::read_sign(self.file.as_slice()));
+                }
                 self.check = Some(Check {
                     line: line.number,
                     row: 0,
@@ -101,12 +107,14 @@ impl Replay {
 fn main(rt: HostRuntime) {
     let mut buf = [0u8; 524288];
     let mut replay = Replay {
+        file: ArrayVec::new(),
+        came: false,
         sign: None,
         check: None,
         score: Score::default(),
     };
-    let mut input = Input::new(rt.stdin(), &mut buf);
-    match input.each(|line| replay.turn(&rt, line)) {
+    let mut lines = Lines::new(rt.stdin(), &mut buf, false);
+    match lines.each(|line| replay.turn(&rt, line)) {
         Ok(()) => replay.score.print(&rt, Kind::I),
         Err(bad) => {
             let _ = println!(rt; "{bad}");
