@@ -84,7 +84,11 @@ impl<'a> Rest<'a> {
 fn text_of(p: Rest) -> Option<Place>
     ensures { result ≡ text_of p.entry.end p.entry.bytes.now }
 {
-    part::has(p.bytes, b',').then_some(p.past_comma().place())
+    if part::has(p.bytes, b',') {
+        Some(p.past_comma().place())
+    } else {
+        None
+    }
 }
 
 // The number of a manufacturer specific tag or of its end, and its text.

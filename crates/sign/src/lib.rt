@@ -44,9 +44,9 @@ struct CharRecord {
 
 // n characters in a row, and the offset past them.
 #[derive(Clone, Copy)]
-struct CharRun {
-    n: usize,
-    at: usize,
+pub struct CharRun {
+    pub n: usize,
+    pub at: usize,
 }
 
 // The bytes of a bitmap.

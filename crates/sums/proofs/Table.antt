@@ -119,7 +119,7 @@ module _ (r e : Row) {t : Bool} (f : t ≡ same_row r e) (l : List ℕ) (o : Sum
 
 -- ---- `gather`: the rows done are added up, and es are left
 
-nil_at : (n j : ℕ) → get_or (replicate {A = ℕ} n 0) j 0 ≡ 0
+pub nil_at : (n j : ℕ) → get_or (replicate {A = ℕ} n 0) j 0 ≡ 0
 nil_at zero j = refl
 nil_at (suc n) zero = refl
 nil_at (suc n) (suc j) = nil_at n j

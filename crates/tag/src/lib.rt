@@ -109,20 +109,10 @@ pub fn parse_color_background(p: &[u8]) -> Option<Value>
     c.map(Value::ColorBackground)
 }
 
-// What comes after the first three parts.
-fn after_three(p: &[u8]) -> &[u8]
-    ensures { result.now ≡ past 44 (past 44 (past 44 p.now)) }
+// The rectangle of the first three parts and a height: p, q and r begin with one of them each.
+fn rectangle(p: &[u8], q: &[u8], r: &[u8], height: &[u8]) -> Option<Rectangle>
+    ensures { result ≡ rectangle_of (up_to 44 p.now) (up_to 44 q.now) (up_to 44 r.now) height.now }
 {
-    let q = part::rest_part(p, b',');
-    part::rest_part(part::rest_part(q, b','), b',')
-}
-
-// The rectangle of the first three parts and a height.
-fn rectangle(p: &[u8], height: &[u8]) -> Option<Rectangle>
-    ensures { result ≡ rectangle_of (up_to 44 p.now) (up_to 44 (past 44 p.now)) (up_to 44 (past 44 (past 44 p.now))) height.now }
-{
-    let q = part::rest_part(p, b',');
-    let r = part::rest_part(q, b',');
     param::parse_rectangle(
         part::first_part(p, b','),
         part::first_part(q, b','),
@@ -135,10 +125,12 @@ fn rectangle(p: &[u8], height: &[u8]) -> Option<Rectangle>
 pub fn parse_color_rectangle(p: &[u8]) -> Option<Value>
     ensures { result ≡ color_rectangle p.now }
 {
-    let s = after_three(p);
-    let r = rectangle(p, part::first_part(s, b','))?;
+    let q = part::rest_part(p, b',');
+    let r = part::rest_part(q, b',');
+    let s = part::rest_part(r, b',');
+    let rect = rectangle(p, q, r, part::first_part(s, b','))?;
     let c = param::parse_color(part::rest_part(s, b','))?;
-    Some(Value::ColorRectangle(r, c))
+    Some(Value::ColorRectangle(rect, c))
 }
 
 // The last of the four parts keeps its commas.
@@ -146,7 +138,9 @@ pub fn parse_color_rectangle(p: &[u8]) -> Option<Value>
 pub fn parse_text_rectangle(p: &[u8]) -> Option<Value>
     ensures { result ≡ text_rectangle p.now }
 {
-    rectangle(p, after_three(p)).map(Value::TextRectangle)
+    let q = part::rest_part(p, b',');
+    let r = part::rest_part(q, b',');
+    rectangle(p, q, r, part::rest_part(r, b',')).map(Value::TextRectangle)
 }
 
 #[tactic(auto, unfolding(crate::specs::Tag::spacing_character))]
